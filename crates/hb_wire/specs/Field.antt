@@ -1,8 +1,7 @@
 -- The fields of a message's bytes, in the profile without groups: Protocol Buffers encoding, message structure.
-use Rattle.std.specs.Prelude.{◌≡◌, ℕ, ◌+◌, ◌*◌, ◌^◌, ◌<◌, ◌≤◌, List, [], ◌∷◌, ◌++◌, length}
+use Rattle.std.specs.Prelude.{◌≡◌, ℕ, ◌+◌, ◌*◌, ◌^◌, ◌<◌, ◌≤◌, List, ◌++◌, length, slice_range, ◌-◌}
 use Rattle.std.specs.Int.{w32, w64, from_le_bytes, to_le_bytes}
 use Rattle.std.specs.List.{flat_map}
-use Rattle.std.specs.Borrow.{Bor}
 use Rattle.hb_wire.specs.declared.field.Field.{Field}
 use Rattle.hb_wire.specs.declared.field.Field.TheVariants as fields
 use Rattle.hb_wire.specs.Varint.{IsVarint, varint}
@@ -71,3 +70,10 @@ piece_of (fields.Varint number value) = record { number = number; content = Vari
 piece_of (fields.Fixed64 number value) = record { number = number; content = Fixed64 value }
 piece_of (fields.Body number body) = record { number = number; content = Body body.now }
 piece_of (fields.Fixed32 number value) = record { number = number; content = Fixed32 value }
+
+-- where a body's bytes lie: right before the place `n`
+abbrev pub LiesAt : List ℕ → ℕ → Content → Type 0
+LiesAt bytes n (Varint value) = Unit {0}
+LiesAt bytes n (Fixed64 value) = Unit {0}
+LiesAt bytes n (Body body) = (length body ≤ n) × (slice_range bytes (n - length body) n ≡ body)
+LiesAt bytes n (Fixed32 value) = Unit {0}

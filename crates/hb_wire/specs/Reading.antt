@@ -1,9 +1,10 @@
 -- Reading from left to right, as functions of the bytes that compute.
-use Rattle.std.specs.Prelude.{◌≡◌, ℕ, zero, suc, ◌+◌, ◌-◌, ◌*◌, ◌/◌, ◌%◌, ◌^◌, ◌<◌, ◌≤◌, List, [], ◌∷◌, length, take, drop, Option, Some, None, Result, Ok, Err, nat_lt, ◌==◌, ◌&&◌, if◌then◌else◌, Bool, option_and_then}
+use Rattle.std.specs.Prelude.{◌≡◌, ℕ, zero, suc, ◌+◌, ◌-◌, ◌*◌, ◌/◌, ◌%◌, ◌^◌, ◌≤◌, List, [], ◌∷◌, length, take, drop, Option, Some, None, Result, Ok, Err, nat_lt, ◌==◌, ◌&&◌, if◌then◌else◌, option_and_then}
 use Rattle.std.specs.Option.{option_map}
 use Rattle.std.specs.Int.{w32, w64, from_le_bytes}
 use Rattle.hb_wire.specs.declared.malformed.Malformed.{Malformed}
-use Rattle.hb_wire.specs.Field.{Content, Varint, Fixed64, Body, Fixed32, Piece}
+use Rattle.hb_wire.specs.declared.field.Field.{Field}
+use Rattle.hb_wire.specs.Field.{Content, Varint, Fixed64, Body, Fixed32, Piece, piece_of}
 
 -- the number of the varint at the front and how many bytes it takes, where at most `more` bytes follow its first
 unfoldable pub varint_from : ℕ → List ℕ → Option (ℕ × ℕ)
@@ -44,3 +45,11 @@ field_at bytes = option_and_then (λ tag. if nat_lt 0 (tag.0 / 8) && nat_lt (tag
 abbrev pub ReadsAt : {X Y : Type 0} → (X → Y) → ℕ → Result (X × ℕ) Malformed → Option (Y × ℕ) → Type 0
 ReadsAt view at (Ok (value, end)) read = (at ≤ end) × (read ≡ Some (view value, end - at))
 ReadsAt view at (Err fault) read = (fault.at ≡ at) × (read ≡ None)
+
+-- a content under its field's number
+abbrev pub numbered : ℕ → Option (Content × ℕ) → Option (Piece × ℕ)
+numbered number read = option_map (λ c. (record { number = number; content = c.0 }, c.1)) read
+
+-- a field that was found, seen without where its body lies
+abbrev pub found_piece : Option (Field × ℕ) → Option (Piece × ℕ)
+found_piece found = option_map (λ r. (piece_of r.0, r.1)) found

@@ -1,6 +1,5 @@
 -- Base-128 varints of the Protocol Buffers encoding: seven bits a byte, the low ones first.
-use Rattle.std.specs.Prelude.{◌≡◌, ℕ, zero, suc, ◌+◌, ◌-◌, ◌*◌, ◌/◌, ◌%◌, ◌^◌, ◌<◌, ◌≤◌, List, [], ◌∷◌, length, Option, Some, None, nat_lt, if◌then◌else◌}
-use Rattle.std.specs.Option.{option_map}
+use Rattle.std.specs.Prelude.{◌≡◌, ℕ, zero, suc, ◌+◌, ◌*◌, ◌/◌, ◌%◌, ◌^◌, ◌<◌, ◌≤◌, List, [], ◌∷◌, length, nat_lt, slice_index, if◌then◌else◌}
 
 -- These bytes spell the number. A byte below 128 is the last; one from 128 on has seven bits, and the bytes after it spell the rest.
 abbrev pub Spells : List ℕ → ℕ → Type 0
@@ -22,3 +21,7 @@ varint_of (suc more) n = if nat_lt n 128 then n ∷ [] else (n % 128 + 128) ∷ 
 -- the shortest spelling of a number below 2 ^ 64
 unfoldable pub varint : ℕ → List ℕ
 varint n = varint_of 9 n
+
+-- each is a byte
+abbrev pub AreBytes : List ℕ → Type 0
+AreBytes bytes = (i : ℕ) → slice_index bytes i < 256

@@ -6,7 +6,24 @@
 #![tactic(auto)]
 
 mod field;
+mod fields;
+mod laws;
 mod malformed;
+mod no_memory;
+mod seq;
+mod text;
+mod varint;
+mod writing;
 
 pub use field::Field;
+pub use fields::next_field;
+pub use laws::{canonical_field, one_field, one_list_of_fields, one_varint, shortest_varint};
 pub use malformed::Malformed;
+pub use no_memory::NoMemory;
+pub use seq::Seq;
+pub use text::Text;
+pub use varint::read_varint;
+pub use writing::{write_body, write_number, write_tag, write_varint};
+
+#[cfg(test)]
+mod tests;

@@ -1,0 +1,4 @@
+pub mod Messages
+pub mod Fields
+pub mod Faults
+pub mod Steps

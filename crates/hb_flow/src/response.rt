@@ -1,0 +1,118 @@
+//! One answer of a node: Cilium's `observer.GetFlowsResponse` (`observer/observer.proto`).
+ghost use Rattle.std.specs.Prelude.{◌≡◌, ◌++◌, IfOk, OnOk, OnErr};
+ghost use Rattle.hb_flow.specs.Faults.{response_check};
+ghost use Rattle.hb_flow.specs.Messages.{response_bytes};
+ghost use Rattle.hb_flow.specs.Steps.{response_after};
+
+use crate::message::{Message, merge};
+use crate::parts::{merge_flow, merge_stamp, text_of};
+use crate::writing::{put_optional, put_text};
+use crate::{DecodeFault, Flow, Stamp};
+use hb_wire::{Field, NoMemory, Text};
+use std::alloc::Global;
+
+/// An answer with the flow that it holds, the node that saw it and when.
+#[derive(Debug, Drop)]
+pub struct GetFlowsResponse {
+    pub flow: Option<Flow>,
+    pub node_name: Text,
+    pub time: Option<Stamp>,
+}
+
+impl Message for GetFlowsResponse {
+    ghost check = { response_check };
+
+    ghost after = { response_after };
+
+    ghost spelled = { response_bytes };
+
+    #[tactic(auto, unfolding(crate::specs::Faults::response_check))]
+    fn take(&mut self, alloc: Global, field: Field<'_>, end: usize) -> Result<(), DecodeFault> {
+        match field {
+            Field::Body { number: 1, body } => {
+                match merge_flow(alloc, self.flow.take(), body, end - body.len()) {
+                    Ok(flow) => self.flow = Some(flow),
+                    Err(fault) => return Err(fault),
+                }
+            }
+            Field::Body { number: 1000, body } => match text_of(alloc, body, end - body.len()) {
+                Ok(node_name) => self.node_name = node_name,
+                Err(fault) => return Err(fault),
+            },
+            Field::Body { number: 1001, body } => {
+                match merge_stamp(alloc, self.time, body, end - body.len()) {
+                    Ok(time) => self.time = Some(time),
+                    Err(fault) => return Err(fault),
+                }
+            }
+            _ => {}
+        }
+        Ok(())
+    }
+
+    #[tactic(auto, using(crate::proofs::Spellings::spelling_three), unfolding(crate::specs::Messages::response_bytes))]
+    fn put(&self, out: &mut Vec<u8>) -> Result<(), NoMemory> {
+        put_optional(out, 1, &self.flow)?;
+        put_text(out, 1000, self.node_name.as_str())?;
+        put_optional(out, 1001, &self.time)
+    }
+}
+
+impl GetFlowsResponse {
+    ghost use Rattle.hb_flow.specs.Faults.{Answers, response_fault};
+    ghost use Rattle.hb_flow.specs.Messages.{read_response, ResponseFits};
+
+    /// Reads an answer (Protocol Buffers encoding guide). Of fields that are not known, or have
+    /// another wire type, nothing is kept. The bytes are gone through once, and each text is copied.
+    ///
+    /// Malformed where no field starts: at a group (wire types 3 and 4), at number 0, and at a field
+    /// that does not end within its message. BadUtf8 at the first byte of a text.
+    pub fn read(alloc: Global, bytes: &[u8]) -> Result<GetFlowsResponse, DecodeFault>
+        ensures reads { Answers result (response_fault bytes.now)
+            (λ r. r ≡ read_response bytes.now) }
+        ensures fits { IfOk result ResponseFits }
+    {
+        let mut response = GetFlowsResponse {
+            flow: None,
+            node_name: Text::empty(alloc),
+            time: None,
+        };
+        match merge(alloc, &mut response, bytes, 0) {
+            Ok(()) => {
+                response.known();
+                Ok(response)
+            }
+            Err(fault) => Err(fault),
+        }
+    }
+
+    /// Appends the canonical spelling: fields by ascending number, with no defaults. The bytes of
+    /// each message in it are moved once, when their length is put before them. At `Err` nothing is
+    /// appended.
+    pub fn write(&self, out: &mut Vec<u8>) -> Result<(), NoMemory>
+        ensures ok { OnOk result (out.new.items ≡ out.old.items ++ response_bytes self.now) }
+        ensures err { OnErr result (out.new.items ≡ out.old.items) }
+    {
+        let before = out.len();
+        match self.put(out) {
+            Ok(()) => Ok(()),
+            Err(fault) => {
+                out.truncate(before);
+                Err(fault)
+            }
+        }
+    }
+
+    /// What the types of its fields say: it has a spelling.
+    fn known(&self)
+        ensures { ResponseFits self.now }
+    {
+        if let Some(flow) = &self.flow {
+            flow.known();
+        }
+        if let Some(time) = &self.time {
+            time.known();
+        }
+        let _name = self.node_name.as_str();
+    }
+}

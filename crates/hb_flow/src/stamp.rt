@@ -1,0 +1,53 @@
+//! The moment of an event: `google.protobuf.Timestamp` (`google/protobuf/timestamp.proto`).
+ghost use Rattle.hb_flow.specs.Faults.{stamp_check};
+ghost use Rattle.hb_flow.specs.Messages.{stamp_bytes};
+ghost use Rattle.hb_flow.specs.Steps.{stamp_after};
+
+use crate::DecodeFault;
+use crate::message::Message;
+use crate::numbers::{int32, int64, of_signed};
+use crate::writing::put_number;
+use hb_wire::{Field, NoMemory};
+use std::alloc::Global;
+
+/// A moment as whole seconds since 1970-01-01T00:00:00Z and nanoseconds, ordered by seconds first.
+#[derive(Clone, Copy, Debug, PartialEq, Eq, PartialOrd, Ord)]
+pub struct Stamp {
+    pub secs: i64,
+    pub nanos: i32,
+}
+
+impl Message for Stamp {
+    ghost check = { stamp_check };
+
+    ghost after = { stamp_after };
+
+    ghost spelled = { stamp_bytes };
+
+    fn take(&mut self, _alloc: Global, field: Field<'_>, _end: usize) -> Result<(), DecodeFault> {
+        match field {
+            Field::Varint { number: 1, value } => self.secs = int64(value),
+            Field::Varint { number: 2, value } => self.nanos = int32(value),
+            _ => {}
+        }
+        Ok(())
+    }
+
+    #[tactic(auto, using(crate::proofs::Spellings::spelling_two), unfolding(crate::specs::Messages::stamp_bytes))]
+    fn put(&self, out: &mut Vec<u8>) -> Result<(), NoMemory> {
+        put_number(out, 1, of_signed(self.secs))?;
+        put_number(out, 2, of_signed(i64::from(self.nanos)))
+    }
+}
+
+impl Stamp {
+    ghost use Rattle.hb_flow.specs.Messages.{StampFits};
+
+    /// What the types of its fields say: it has a spelling.
+    pub(crate) fn known(&self)
+        ensures { StampFits self.now }
+    {
+        let _secs = self.secs;
+        let _nanos = self.nanos;
+    }
+}

@@ -1,0 +1,48 @@
+//! Items in a row.
+
+ghost use Rattle.std.specs.Prelude.{◌≡◌, [], ◌∷◌, ◌++◌, IfOk, OnOk, OnErr};
+
+use crate::no_memory::NoMemory;
+use std::alloc::Global;
+use std::marker::Model;
+
+/// Items in the order in which they were put. A contract sees the list of them.
+#[derive(Debug, Drop)]
+pub struct Seq<T> {
+    vec: Vec<T>,
+}
+
+impl<T> Model for Seq<T> {
+    ghost use Rattle.std.specs.Prelude.{List};
+
+    ghost Value = { List T };
+
+    ghost view = { λ seq. seq.vec.items };
+}
+
+impl<T: Drop> Seq<T> {
+    /// A row of no items.
+    pub fn new(alloc: Global) -> Result<Seq<T>, NoMemory>
+        ensures ok { IfOk result (λ seq. seq ≡ []) }
+    {
+        Ok(Seq {
+            vec: Vec::new(alloc),
+        })
+    }
+
+    /// Puts an item at the end.
+    pub fn push(&mut self, item: T) -> Result<(), NoMemory>
+        ensures ok { OnOk result (self.new ≡ self.old ++ item ∷ []) }
+        ensures err { OnErr result (self.new ≡ self.old) }
+    {
+        self.vec.push(item)?;
+        Ok(())
+    }
+
+    /// The items.
+    pub fn as_slice(&self) -> &[T]
+        ensures value { result.now ≡ self.now }
+    {
+        self.vec.as_slice()
+    }
+}

@@ -1,0 +1,9 @@
+pub mod Observe
+pub mod Recording
+pub mod Reply
+pub mod Words
+pub mod Lines
+pub mod Limits
+pub mod Reading
+pub mod Ingest
+pub mod Refusal

@@ -1,0 +1,244 @@
+//! The top call over a shelf and a sink in memory. The expected bytes are written out by hand.
+use super::*;
+use hb_edge::{MemShelf, MemSink, SetClock};
+use hb_wire::Text;
+use std::test::Fail;
+
+/// The end of a reply.
+const OK: [u8; 5] = [2, 0, 0, 0, 0];
+
+/// A recording of one flow: time 1 s, verdict FORWARDED, uuid `0`.
+const ONE: [u8; 17] = [0, 0, 0, 0, 12, 10, 10, 10, 2, 8, 1, 16, 1, 146, 2, 1, 48];
+
+/// The frame that answers it: the flow, the node's name `localhost` and the flow's time.
+const ANSWER: [u8; 34] = [
+    0, 0, 0, 0, 29, 10, 10, 10, 2, 8, 1, 16, 1, 146, 2, 1, 48, 194, 62, 9, 108, 111, 99, 97, 108,
+    104, 111, 115, 116, 202, 62, 2, 8, 1,
+];
+
+fn ran(
+    rt: HostRuntime,
+    words: &[&str],
+    shelf: &mut MemShelf,
+    out: &mut MemSink,
+) -> Result<Status, Fail> {
+    let mut owned = Vec::new(rt.alloc());
+    for word in words {
+        owned.push(String::from_str(rt.alloc(), word)?)?;
+    }
+    Ok(run(rt.alloc(), &owned, shelf, out, &SetClock::new(0)))
+}
+
+fn observed(
+    rt: HostRuntime,
+    shelf: &mut MemShelf,
+    out: &mut MemSink,
+) -> Result<(u8, String), Fail> {
+    let status = ran(rt, &["observe", "f", "--output", "frames"], shelf, out)?;
+    Ok((status.code(), status.line(rt.alloc())?))
+}
+
+fn shelf_of(rt: HostRuntime, file: &[u8]) -> Result<MemShelf, Fail> {
+    let mut shelf = MemShelf::new(rt.alloc())?;
+    shelf.put("f", file)?;
+    Ok(shelf)
+}
+
+#[test]
+fn a_recording_is_answered(rt: HostRuntime) -> Result<(), Fail> {
+    // The name and the time of the recorded answer itself are not handed on.
+    let named = [
+        0, 0, 0, 0, 21, 10, 10, 10, 2, 8, 1, 16, 1, 146, 2, 1, 48, 194, 62, 1, 120, 202, 62, 2, 8,
+        2,
+    ];
+    let untimed = [0, 0, 0, 0, 8, 10, 6, 16, 1, 146, 2, 1, 48];
+    let untimed_answer = [
+        0, 0, 0, 0, 20, 10, 6, 16, 1, 146, 2, 1, 48, 194, 62, 9, 108, 111, 99, 97, 108, 104, 111,
+        115, 116,
+    ];
+    let empty_time = [0, 0, 0, 0, 8, 10, 6, 10, 0, 146, 2, 1, 48];
+    let empty_time_answer = [
+        0, 0, 0, 0, 23, 10, 6, 10, 0, 146, 2, 1, 48, 194, 62, 9, 108, 111, 99, 97, 108, 104, 111,
+        115, 116, 202, 62, 0,
+    ];
+    let cases: [(&[u8], &[u8]); 5] = [
+        (&[], &[]),
+        (&ONE, &ANSWER),
+        (&named, &ANSWER),
+        (&untimed, &untimed_answer),
+        (&empty_time, &empty_time_answer),
+    ];
+    for (file, answer) in cases {
+        let mut out = MemSink::new(rt.alloc())?;
+        let (code, line) = observed(rt, &mut shelf_of(rt, file)?, &mut out)?;
+        assert_eq!(rt; (code, line.as_str()), (0, ""), "{file:?}");
+        let mut reply = answer.to_vec(rt.alloc())?;
+        reply.extend_from_slice(&OK)?;
+        assert_eq!(rt; out.sent(), reply.as_slice(), "{file:?}");
+    }
+    Ok(())
+}
+
+/// The frame of a flow with a uuid of so many letters, from 128 to 16,000 of them.
+fn flow_of_letters(rt: HostRuntime, letters: u16) -> Result<Vec<u8>, Fail> {
+    let mut frame = vec![in rt.alloc(); 0]?;
+    frame.extend_from_slice(&(u32::from(letters) + 7).to_be_bytes())?;
+    let size = letters.saturating_add(4);
+    frame.extend_from_slice(&[10, (size % 128) as u8 + 128, (size / 128 % 128) as u8])?;
+    frame.extend_from_slice(&[146, 2])?;
+    frame.extend_from_slice(&[(letters % 128) as u8 + 128, (letters / 128 % 128) as u8])?;
+    for _ in 0..letters {
+        frame.push(b'u')?;
+    }
+    Ok(frame)
+}
+
+#[test]
+fn a_record_has_at_most_8192_bytes(rt: HostRuntime) -> Result<(), Fail> {
+    for (letters, want) in [(8185, 0), (8186, 13)] {
+        let mut out = MemSink::new(rt.alloc())?;
+        let file = flow_of_letters(rt, letters)?;
+        let (code, _) = observed(rt, &mut shelf_of(rt, &file)?, &mut out)?;
+        assert_eq!(rt; code, want, "{letters} letters");
+    }
+    Ok(())
+}
+
+#[test]
+fn another_form_is_refused(rt: HostRuntime) -> Result<(), Fail> {
+    let files: [&[u8]; 18] = [
+        // no whole frame, or more than one
+        &[0],
+        &[0, 0, 0, 0, 12, 10],
+        &[0, 0, 0, 0, 8, 10, 6, 16, 1, 146, 2, 1, 48, 0],
+        &[0, 0, 0, 0, 4, 10, 2, 16, 1, 0, 0, 0, 0, 4, 10, 2, 16, 1],
+        // another kind
+        &[1, 0, 0, 0, 4, 10, 2, 16, 1],
+        &OK,
+        // no flow, or another member
+        &[0, 0, 0, 0, 0],
+        &[0, 0, 0, 0, 2, 18, 0],
+        &[0, 0, 0, 0, 3, 202, 62, 0],
+        // a spelling that is not canonical
+        &[0, 0, 0, 0, 6, 10, 4, 16, 1, 16, 2],
+        &[0, 0, 0, 0, 8, 10, 6, 146, 2, 1, 48, 16, 1],
+        &[0, 0, 0, 0, 4, 10, 2, 16, 0],
+        &[0, 0, 0, 0, 5, 10, 3, 16, 129, 0],
+        &[0, 0, 0, 0, 5, 138, 0, 2, 16, 1],
+        // a field that is not known
+        &[0, 0, 0, 0, 6, 10, 4, 16, 1, 56, 5],
+        // malformed, and not UTF-8
+        &[0, 0, 0, 0, 4, 10, 2, 16, 128],
+        &[0, 0, 0, 0, 4, 10, 3, 16, 1],
+        &[0, 0, 0, 0, 6, 10, 4, 146, 2, 1, 255],
+    ];
+    for file in files {
+        let mut out = MemSink::new(rt.alloc())?;
+        let (code, line) = observed(rt, &mut shelf_of(rt, file)?, &mut out)?;
+        assert_eq!(rt;
+            (code, line.as_str()),
+            (13, "f: form not built"),
+            "{file:?}"
+        );
+        assert!(rt; out.sent().is_empty(), "{file:?}");
+    }
+    Ok(())
+}
+
+#[test]
+fn other_words_are_refused(rt: HostRuntime) -> Result<(), Fail> {
+    let lists: [&[&str]; 8] = [
+        &[],
+        &["observe"],
+        &["observe", "f"],
+        &["observe", "f", "--output"],
+        &["observe", "f", "--output", "json"],
+        &["observe", "f", "--output", "frames", "more"],
+        &["observe", "--output", "frames", "f"],
+        &["print", "f", "--output", "frames"],
+    ];
+    for words in lists {
+        let mut out = MemSink::new(rt.alloc())?;
+        let status = ran(rt, words, &mut shelf_of(rt, &ONE)?, &mut out)?;
+        assert_eq!(rt; status.code(), 2, "{words:?}");
+        assert_eq!(rt; status.line(rt.alloc())?.as_str(), "bad words");
+        assert!(rt; out.sent().is_empty(), "{words:?}");
+    }
+    Ok(())
+}
+
+#[test]
+fn a_read_that_fails_is_told(rt: HostRuntime) -> Result<(), Fail> {
+    // The second read finds the end. A call that does not come fails nothing.
+    for (failing, want) in [
+        (1, (3, "f: read failed")),
+        (2, (3, "f: read failed")),
+        (3, (0, "")),
+    ] {
+        let mut shelf = shelf_of(rt, &ONE)?;
+        shelf.set_fail(&[failing])?;
+        let mut out = MemSink::new(rt.alloc())?;
+        let (code, line) = observed(rt, &mut shelf, &mut out)?;
+        assert_eq!(rt; (code, line.as_str()), want, "call {failing}");
+        assert_eq!(rt; out.sent().is_empty(), code != 0, "call {failing}");
+    }
+    let mut out = MemSink::new(rt.alloc())?;
+    let (code, line) = observed(rt, &mut MemShelf::new(rt.alloc())?, &mut out)?;
+    assert_eq!(rt;
+        (code, line.as_str()),
+        (3, "f: read failed"),
+        "no such file"
+    );
+    Ok(())
+}
+
+#[test]
+fn a_write_that_fails_leaves_a_front(rt: HostRuntime) -> Result<(), Fail> {
+    let mut reply = ANSWER.to_vec(rt.alloc())?;
+    reply.extend_from_slice(&OK)?;
+    // One byte a write, so that 39 writes are due.
+    for (failing, held, want) in [
+        (1, 0, (4, "write failed")),
+        (2, 1, (4, "write failed")),
+        (39, 38, (4, "write failed")),
+        (40, 39, (0, "")),
+    ] {
+        let mut out = MemSink::new(rt.alloc())?;
+        out.set_piece(1);
+        out.set_fail(&[failing])?;
+        let (code, line) = observed(rt, &mut shelf_of(rt, &ONE)?, &mut out)?;
+        assert_eq!(rt; (code, line.as_str()), want, "call {failing}");
+        assert_eq!(rt; Some(out.sent()), reply.get(..held), "call {failing}");
+    }
+    Ok(())
+}
+
+#[test]
+fn each_status_has_a_code_and_a_line(rt: HostRuntime) -> Result<(), Fail> {
+    let file = || Text::of(rt.alloc(), "a/b");
+    for (status, code, line) in [
+        (Status::Done, 0, ""),
+        (Status::BadWords, 2, "bad words"),
+        (Status::ReadFault { file: file()? }, 3, "a/b: read failed"),
+        (Status::WriteFault, 4, "write failed"),
+        (
+            Status::BadRecord {
+                file: file()?,
+                at: 17,
+            },
+            5,
+            "a/b: bad record at 17",
+        ),
+        (Status::NoMemory, 9, "no memory"),
+        (Status::TooLarge { file: file()? }, 12, "a/b: too large"),
+        (
+            Status::OtherForm { file: file()? },
+            13,
+            "a/b: form not built",
+        ),
+    ] {
+        assert_eq!(rt; status.code(), code);
+        assert_eq!(rt; status.line(rt.alloc())?.as_str(), line);
+    }
+    Ok(())
+}
