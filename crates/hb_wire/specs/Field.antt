@@ -18,6 +18,7 @@ pub record Piece : Type 0 where
   pub number : ℕ
   pub content : Content
 
+-- the number that a tag has for it
 abbrev pub wire_type : Content → ℕ
 wire_type (Varint value) = 0
 wire_type (Fixed64 value) = 1
@@ -40,13 +41,14 @@ abbrev pub SpellsField : List ℕ → Piece → Type 0
 SpellsField bytes piece = IsNumber piece.number × (tag : List ℕ) × (content : List ℕ) × IsVarint tag (8 * piece.number + wire_type piece.content)
     × SpellsContent content piece.content × (bytes ≡ tag ++ content)
 
--- the one canonical spelling: each varint as short as it can be
+-- the one canonical spelling of a content: each varint as short as it can be
 abbrev pub spelled_content : Content → List ℕ
 spelled_content (Varint value) = varint value
 spelled_content (Fixed64 value) = to_le_bytes w64 value
 spelled_content (Body body) = varint (length body) ++ body
 spelled_content (Fixed32 value) = to_le_bytes w32 value
 
+-- the one canonical spelling of a field: its tag, and the content
 unfoldable pub spelled : Piece → List ℕ
 spelled piece = varint (8 * piece.number + wire_type piece.content) ++ spelled_content piece.content
 
@@ -54,13 +56,14 @@ spelled piece = varint (8 * piece.number + wire_type piece.content) ++ spelled_c
 abbrev pub spelling : List Piece → List ℕ
 spelling pieces = flat_map spelled pieces
 
--- what has a spelling
+-- a content that has a spelling
 abbrev pub ContentFits : Content → Type 0
 ContentFits (Varint value) = value < 2 ^ 64
 ContentFits (Fixed64 value) = value < 2 ^ 64
 ContentFits (Body body) = length body < 2 ^ 64
 ContentFits (Fixed32 value) = value < 2 ^ 32
 
+-- a field that has a spelling
 abbrev pub PieceFits : Piece → Type 0
 PieceFits piece = IsNumber piece.number × ContentFits piece.content
 

@@ -13,20 +13,24 @@ varint_from zero (b ∷ bytes) = if nat_lt b 2 then Some (b, 1) else None
 varint_from (suc more) (b ∷ bytes) = if nat_lt b 128 then Some (b, 1)
     else option_map (λ rest. (b - 128 + 128 * rest.0, rest.1 + 1)) (varint_from more bytes)
 
+-- the same of a varint of at most ten bytes
 unfoldable pub varint_at : List ℕ → Option (ℕ × ℕ)
 varint_at bytes = varint_from 9 bytes
 
--- the content at the front, of a wire type, and how many bytes it takes
+-- the eight bytes at the front as a content, and how many they are
 unfoldable pub fixed64_at : List ℕ → Option (Content × ℕ)
 fixed64_at bytes = if nat_lt (length bytes) 8 then None else Some (Fixed64 (from_le_bytes w64 (take 8 bytes)), 8)
 
+-- the four bytes at the front, likewise
 unfoldable pub fixed32_at : List ℕ → Option (Content × ℕ)
 fixed32_at bytes = if nat_lt (length bytes) 4 then None else Some (Fixed32 (from_le_bytes w32 (take 4 bytes)), 4)
 
+-- the body at the front, and how many bytes it takes with its length
 unfoldable pub body_at : List ℕ → Option (Content × ℕ)
 body_at bytes = option_and_then (λ size. if nat_lt (length bytes - size.1) size.0 then None
     else Some (Body (take size.0 (drop size.1 bytes)), size.1 + size.0)) (varint_at bytes)
 
+-- the content of this wire type at the front, and how many bytes it takes
 unfoldable pub content_at : ℕ → List ℕ → Option (Content × ℕ)
 content_at kind bytes =
     if kind == 0 then option_map (λ v. (Varint v.0, v.1)) (varint_at bytes)

@@ -1,6 +1,6 @@
 //! Items in a row.
 
-ghost use Rattle.std.specs.Prelude.{◌≡◌, [], ◌∷◌, ◌++◌, IfOk, OnOk, OnErr};
+ghost use Rattle.std.specs.Prelude.{◌≡◌, [], ◌∷◌, ◌++◌, IfOk, IsOk, OnOk, OnErr};
 
 use crate::no_memory::NoMemory;
 use std::alloc::Global;
@@ -21,9 +21,10 @@ impl<T> Model for Seq<T> {
 }
 
 impl<T: Drop> Seq<T> {
-    /// A row of no items.
+    /// A row of no items. It takes no memory.
     pub fn new(alloc: Global) -> Result<Seq<T>, NoMemory>
-        ensures ok { IfOk result (λ seq. seq ≡ []) }
+        ensures ok { IsOk result }
+        ensures empty { IfOk result (λ seq. seq ≡ []) }
     {
         Ok(Seq {
             vec: Vec::new(alloc),
