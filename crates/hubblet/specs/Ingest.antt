@@ -1,5 +1,5 @@
 -- What reading a recording into a ring gave.
-use Rattle.std.specs.Prelude.{◌≡◌, ℕ, ◌≤◌, List, length, map, Some, IsSome}
+use Rattle.std.specs.Prelude.{◌≡◌, ℕ, ◌≤◌, List, ◌∷◌, [], ◌++◌, length, map, Some}
 use Rattle.std.specs.List.{AllByRecursion}
 use Rattle.hb_flow.specs.Messages.{response_bytes, record_bytes, FlowFits, ResponseFits}
 use Rattle.hb_flow.specs.declared.fault.DecodeFault.{DecodeFault}
@@ -11,7 +11,7 @@ use Rattle.hubblet.specs.declared.recording.Untaken.{Untaken}
 use Rattle.hubblet.specs.declared.recording.Untaken.TheVariants.{OtherForm, NoMemory}
 use Rattle.hubblet.specs.Limits.{longest_record}
 use Rattle.hubblet.specs.Observe.{output}
-use Rattle.hubblet.specs.Recording.{Recorded, flows}
+use Rattle.hubblet.specs.Recording.{IsTaken, Recorded, flows}
 
 -- a flow whose record a ring keeps
 pub record IsKept (f : Flow) : Type 0 where
@@ -42,9 +42,16 @@ pub record SpellsFlow (body : List ℕ) (flow : Flow) : Type 0 where
   pub holds : response.flow ≡ Some flow
   pub spelled : body ≡ response_bytes response
 
--- they are the canonical spelling of no answer that holds a flow
-abbrev pub IsOtherSpelling : List ℕ → Type 0
-IsOtherSpelling body = (r : GetFlowsResponse) → ResponseFits r → IsSome r.flow → body ≡ response_bytes r → ⊥
+-- they are the canonical spelling of no answer that is taken
+abbrev pub IsOtherMessage : List ℕ → Type 0
+IsOtherMessage body = (r : GetFlowsResponse) → IsTaken r → body ≡ response_bytes r → ⊥
+
+-- the message spells an answer that is taken, and the ring has one record more, that of its flow
+pub record TakesMessage (body : List ℕ) (old new : Kept) : Type 0 where
+  pub flow : Flow
+  pub spells : SpellsFlow body flow
+  pub short : length (record_bytes flow) ≤ longest_record
+  pub stands : (log : List (List ℕ)) → StandsFor old log → StandsFor new (log ++ record_bytes flow ∷ [])
 
 -- why something was not taken: it has another form, or memory was refused
 abbrev pub IsUntaken : Type 0 → Untaken → Type 0

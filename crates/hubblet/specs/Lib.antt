@@ -1,5 +1,6 @@
 pub mod Observe
 pub mod Recording
+pub mod Frames
 pub mod Reply
 pub mod Words
 pub mod Lines

@@ -5,7 +5,7 @@ use Rattle.hb_flow.specs.Messages.{response_bytes}
 use Rattle.hb_flow.specs.declared.flow.Flow.{Flow}
 use Rattle.hb_flow.specs.declared.response.GetFlowsResponse.{GetFlowsResponse}
 use Rattle.hb_listring.specs.Log.{window}
-use Rattle.hubblet.specs.Recording.{frame}
+use Rattle.hubblet.specs.Frames.{frame}
 
 -- the answer that hands on a flow: with the node's name, and the flow's time where it has one
 abbrev pub handed_on : List ℕ → Flow → GetFlowsResponse

@@ -3,6 +3,7 @@
 //! what each exit status tells of the file and of the output. `main` gives it the system's.
 #![tactic(auto)]
 
+mod frames;
 mod laws;
 mod observe;
 mod reading;
@@ -15,7 +16,7 @@ mod words;
 mod writing;
 
 use hb_edge::{FileShelf, RealClock, StdoutSink};
-pub use laws::one_recording;
+pub use laws::{one_cut, one_recording};
 pub use observe::run;
 pub use status::Status;
 use std::env;

@@ -1,6 +1,5 @@
 //! Reading a file whole.
-ghost use Rattle.std.specs.Prelude.{◌≡◌, ◌≤◌, ◌^◌, length, IfOk, IfErr};
-ghost use Rattle.std.specs.Option.{ForSome};
+ghost use Rattle.std.specs.Prelude.{◌≡◌, ◌≤◌, ◌^◌, IfOk, IfErr};
 ghost use Rattle.hb_edge.specs.Causes.{Rose};
 ghost use Rattle.hubblet.specs.Reading.{IsWhole, IsUnread};
 

@@ -1,20 +1,16 @@
 //! Reading a recording into a ring.
-ghost use Rattle.std.specs.Prelude.{◌≡◌, ◌<◌, ◌≤◌, ℕ, List, [], ◌∷◌, length, MatchOption, IfOk, IfErr, OnOk};
+ghost use Rattle.std.specs.Prelude.{◌≡◌, ◌<◌, ◌≤◌, ◌^◌, ℕ, List, [], ◌∷◌, ◌++◌, length, IfOk, IfErr, OnOk};
 ghost use Rattle.hb_flow.specs.Messages.{record_bytes};
 ghost use Rattle.hb_listring.specs.Log.{StandsFor};
-ghost use Rattle.hubblet.specs.Recording.{frame, IsOtherForm};
-ghost use Rattle.hubblet.specs.Ingest.{SpellsFlow, IsOtherSpelling, IsUntaken, Ingests};
+ghost use Rattle.hubblet.specs.Limits.{longest_body};
+ghost use Rattle.hubblet.specs.Recording.{IsOtherForm};
+ghost use Rattle.hubblet.specs.Ingest.{SpellsFlow, IsOtherMessage, TakesMessage, IsUntaken, Ingests};
 
+use crate::frames::{MESSAGE, first_frame};
 use hb_flow::{DecodeFault, Flow, GetFlowsResponse, record_of};
 use hb_listring::{ListRing, Put};
 use hb_wire::NoMemory;
 use std::alloc::Global;
-
-/// How many bytes come before the body of a frame: its kind, and its length.
-const HEAD: usize = 5;
-
-/// The greatest length of a frame's body, in bytes.
-const BODY: usize = 65_536;
 
 /// The greatest length of a flow's record, in bytes.
 pub const RECORD: usize = 8_192;
@@ -52,7 +48,8 @@ impl From<NoMemory> for Untaken {
     }
 }
 
-/// Puts the records of a recording's flows into an empty ring, in order.
+/// Puts the records of a recording's flows into an empty ring, in order. The cost of a frame goes by
+/// its own length, and what is spelled of it has one vector for all frames.
 pub fn ingest(alloc: Global, file: &[u8], ring: &mut ListRing) -> Result<(), Untaken>
     requires empty { StandsFor ring.old [] }
     requires slot { ring.old.slot ≡ RECORD }
@@ -60,43 +57,46 @@ pub fn ingest(alloc: Global, file: &[u8], ring: &mut ListRing) -> Result<(), Unt
     ensures err { IfErr result (IsUntaken (IsOtherForm file.now)) }
     ensures limits { (ring.new.capacity ≡ ring.old.capacity) × (ring.new.slot ≡ ring.old.slot) }
 {
-    if file.is_empty() {
-        return Ok(());
+    let mut scratch = Vec::new(alloc);
+    let mut rest = file;
+    while !rest.is_empty() {
+        let Some(frame) = first_frame(rest) else {
+            return Err(Untaken::OtherForm);
+        };
+        if frame.kind == MESSAGE {
+            take_message(alloc, frame.body, &mut scratch, ring)?;
+        }
+        rest = frame.after;
     }
-    let Some(body) = one_frame(file) else {
-        return Err(Untaken::OtherForm);
-    };
-    let flow = canonical_flow(alloc, body)?;
-    keep(alloc, &flow, ring)
+    Ok(())
 }
 
-/// The body of the one frame of kind 0 that the bytes are.
-fn one_frame(file: &[u8]) -> Option<&[u8]>
-    ensures { MatchOption result
-        ((body : List ℕ) → length body ≤ BODY → file.now ≡ frame 0 body → ⊥)
-        (λ body. (length body.now ≤ BODY) × (file.now ≡ frame 0 body.now)) }
+/// Puts the record of a message's flow into the ring. What the vector holds is overwritten.
+fn take_message(
+    alloc: Global,
+    body: &[u8],
+    scratch: &mut Vec<u8>,
+    ring: &mut ListRing,
+) -> Result<(), Untaken>
+    requires short { length body.now ≤ longest_body }
+    requires slot { ring.old.slot ≡ RECORD }
+    requires room { ring.old.written < 2 ^ 62 }
+    ensures ok { OnOk result (TakesMessage body.now ring.old ring.new) }
+    ensures err { IfErr result (IsUntaken (IsOtherMessage body.now)) }
+    ensures limits { (ring.new.capacity ≡ ring.old.capacity) × (ring.new.slot ≡ ring.old.slot) }
 {
-    match file {
-        [0, a, b, c, d, body @ ..] => {
-            let length = u32::from_be_bytes([*a, *b, *c, *d]) as usize;
-            if length == body.len() && length <= BODY {
-                Some(body)
-            } else {
-                None
-            }
-        }
-        _ => None,
-    }
+    let flow = canonical_flow(alloc, body, scratch)?;
+    keep(&flow, scratch, ring)
 }
 
 /// The flow of an answer that is spelled canonically.
-fn canonical_flow(alloc: Global, body: &[u8]) -> Result<Flow, Untaken>
+fn canonical_flow(alloc: Global, body: &[u8], again: &mut Vec<u8>) -> Result<Flow, Untaken>
     ensures ok { IfOk result (SpellsFlow body.now) }
-    ensures err { IfErr result (IsUntaken (IsOtherSpelling body.now)) }
+    ensures err { IfErr result (IsUntaken (IsOtherMessage body.now)) }
 {
     let response = GetFlowsResponse::read(alloc, body)?;
-    let mut again = Vec::new(alloc);
-    response.write(&mut again)?;
+    again.clear();
+    response.write(again)?;
     if again.as_slice() != body {
         return Err(Untaken::OtherForm);
     }
@@ -104,17 +104,18 @@ fn canonical_flow(alloc: Global, body: &[u8]) -> Result<Flow, Untaken>
     flow.ok_or(Untaken::OtherForm)
 }
 
-/// Puts the record of a flow into an empty ring.
-fn keep(alloc: Global, flow: &Flow, ring: &mut ListRing) -> Result<(), Untaken>
-    requires { StandsFor ring.old [] }
-    ensures ok { OnOk result (StandsFor ring.new (record_bytes flow.now ∷ [])) }
+/// Puts the record of a flow into the ring.
+fn keep(flow: &Flow, record: &mut Vec<u8>, ring: &mut ListRing) -> Result<(), Untaken>
+    requires room { ring.old.written < 2 ^ 62 }
+    ensures ok { OnOk result ((log : List (List ℕ)) → StandsFor ring.old log
+        → StandsFor ring.new (log ++ record_bytes flow.now ∷ [])) }
     ensures fits { OnOk result (length (record_bytes flow.now) ≤ ring.old.slot) }
     ensures err { IfErr result (IsUntaken (ring.old.slot < length (record_bytes flow.now))) }
     ensures limits { (ring.new.capacity ≡ ring.old.capacity) × (ring.new.slot ≡ ring.old.slot) }
 {
-    let mut record = Vec::new(alloc);
-    record_of(flow, &mut record)?;
-    match ring.put(&record) {
+    record.clear();
+    record_of(flow, record)?;
+    match ring.put(record.as_slice()) {
         Put::Done => Ok(()),
         Put::TooLong => Err(Untaken::OtherForm),
         Put::Spent => unreachable!(),

@@ -1,12 +1,11 @@
 //! The reply of a node to a request for all the flows that it keeps.
-ghost use Rattle.std.specs.Prelude.{◌≡◌, ◌≤◌, ◌++◌, ℕ, List, length, IfOk, OnOk, IsUtf8};
+ghost use Rattle.std.specs.Prelude.{◌≡◌, ◌≤◌, ◌++◌, List, length, IfOk, OnOk};
 ghost use Rattle.hb_flow.specs.Messages.{record_bytes};
 ghost use Rattle.hb_flow.specs.declared.flow.Flow.{Flow};
-ghost use Rattle.hubblet.specs.Limits.{longest_body};
-ghost use Rattle.hubblet.specs.Recording.{frame};
 ghost use Rattle.hubblet.specs.Reply.{answer_frame, reply};
 ghost use Rattle.hubblet.specs.Ingest.{IsKept, Logs};
 
+use crate::frames::{MESSAGE, put_frame};
 use hb_flow::{DecodeFault, Flow, GetFlowsResponse, event_of};
 use hb_listring::ListRing;
 use hb_wire::{NoMemory, Text};
@@ -27,11 +26,20 @@ pub fn reply_of(alloc: Global, ring: &ListRing, name: &str) -> Result<Vec<u8>, N
     ensures { IfOk result (λ frames. (log : List Flow) → Logs ring.now log
         → frames.items ≡ reply name.now CAPACITY log) }
 {
+    let mut answer = GetFlowsResponse {
+        flow: None,
+        node_name: Text::of(alloc, name)?,
+        time: None,
+    };
+    let mut body = Vec::new(alloc);
     let mut frames = Vec::new(alloc);
     let top = ring.written();
     for position in top - top.min(CAPACITY)..top {
         match ring.get(position) {
-            Some(bytes) => put_answer(alloc, kept_flow(alloc, bytes)?, name, &mut frames)?,
+            Some(bytes) => {
+                let flow = kept_flow(alloc, bytes)?;
+                put_answer(flow, &mut answer, &mut body, &mut frames)?;
+            }
             None => unreachable!(),
         }
     }
@@ -53,29 +61,23 @@ fn kept_flow(alloc: Global, bytes: &[u8]) -> Result<Flow, NoMemory>
     }
 }
 
-/// Appends the frame of the answer that hands on a flow.
-fn put_answer(alloc: Global, flow: Flow, name: &str, frames: &mut Vec<u8>) -> Result<(), NoMemory>
+/// Appends the frame of the answer that hands on a flow. The answer lends the node's name; its other
+/// fields, and what the body holds, are overwritten.
+fn put_answer(
+    flow: Flow,
+    answer: &mut GetFlowsResponse,
+    body: &mut Vec<u8>,
+    frames: &mut Vec<u8>,
+) -> Result<(), NoMemory>
     requires kept { IsKept flow }
-    requires name { length name.now ≤ 63 }
-    ensures { OnOk result (frames.new.items ≡ frames.old.items ++ answer_frame name.now flow) }
+    requires name { length answer.old.node_name ≤ 63 }
+    ensures ok { OnOk result (frames.new.items
+        ≡ frames.old.items ++ answer_frame answer.old.node_name flow) }
+    ensures name { answer.new.node_name ≡ answer.old.node_name }
 {
-    let answer = GetFlowsResponse {
-        time: flow.time,
-        flow: Some(flow),
-        node_name: Text::of(alloc, name)?,
-    };
-    let mut body = Vec::new(alloc);
-    answer.write(&mut body)?;
-    put_frame(frames, 0, &body)
-}
-
-/// Appends a frame.
-fn put_frame(out: &mut Vec<u8>, kind: u8, body: &[u8]) -> Result<(), NoMemory>
-    requires { length body.now ≤ longest_body }
-    ensures { OnOk result (out.new.items ≡ out.old.items ++ frame kind body.now) }
-{
-    out.push(kind)?;
-    out.extend_from_slice(&(body.len() as u32).to_be_bytes())?;
-    out.extend_from_slice(body)?;
-    Ok(())
+    answer.time = flow.time;
+    answer.flow = Some(flow);
+    body.clear();
+    answer.write(body)?;
+    put_frame(frames, MESSAGE, body.as_slice())
 }

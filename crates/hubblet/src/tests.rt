@@ -44,8 +44,23 @@ fn shelf_of(rt: HostRuntime, file: &[u8]) -> Result<MemShelf, Fail> {
     Ok(shelf)
 }
 
+/// What the file is answered: the status, its line and the output.
+fn answered(rt: HostRuntime, file: &[u8]) -> Result<(u8, String, Vec<u8>), Fail> {
+    let mut out = MemSink::new(rt.alloc())?;
+    let (code, line) = observed(rt, &mut shelf_of(rt, file)?, &mut out)?;
+    Ok((code, line, out.sent().to_vec(rt.alloc())?))
+}
+
+/// That the file is taken, and that these frames and the end are its reply.
+fn is_answered_by(rt: HostRuntime, file: &[u8], frames: &[u8]) -> Result<bool, Fail> {
+    let (code, line, sent) = answered(rt, file)?;
+    let mut reply = frames.to_vec(rt.alloc())?;
+    reply.extend_from_slice(&OK)?;
+    Ok(code == 0 && line.is_empty() && sent == reply)
+}
+
 #[test]
-fn a_recording_is_answered(rt: HostRuntime) -> Result<(), Fail> {
+fn a_flow_is_answered(rt: HostRuntime) -> Result<(), Fail> {
     // The name and the time of the recorded answer itself are not handed on.
     let named = [
         0, 0, 0, 0, 21, 10, 10, 10, 2, 8, 1, 16, 1, 146, 2, 1, 48, 194, 62, 1, 120, 202, 62, 2, 8,
@@ -61,20 +76,44 @@ fn a_recording_is_answered(rt: HostRuntime) -> Result<(), Fail> {
         0, 0, 0, 0, 23, 10, 6, 10, 0, 146, 2, 1, 48, 194, 62, 9, 108, 111, 99, 97, 108, 104, 111,
         115, 116, 202, 62, 0,
     ];
-    let cases: [(&[u8], &[u8]); 5] = [
-        (&[], &[]),
+    let cases: [(&[u8], &[u8]); 4] = [
         (&ONE, &ANSWER),
         (&named, &ANSWER),
         (&untimed, &untimed_answer),
         (&empty_time, &empty_time_answer),
     ];
-    for (file, answer) in cases {
-        let mut out = MemSink::new(rt.alloc())?;
-        let (code, line) = observed(rt, &mut shelf_of(rt, file)?, &mut out)?;
-        assert_eq!(rt; (code, line.as_str()), (0, ""), "{file:?}");
-        let mut reply = answer.to_vec(rt.alloc())?;
-        reply.extend_from_slice(&OK)?;
-        assert_eq!(rt; out.sent(), reply.as_slice(), "{file:?}");
+    for (file, frames) in cases {
+        assert!(rt; is_answered_by(rt, file, frames)?, "{file:?}");
+    }
+    Ok(())
+}
+
+#[test]
+fn frames_are_answered_in_order(rt: HostRuntime) -> Result<(), Fail> {
+    let two = [
+        0, 0, 0, 0, 8, 10, 6, 16, 1, 146, 2, 1, 48, 0, 0, 0, 0, 8, 10, 6, 10, 0, 146, 2, 1, 48,
+    ];
+    let two_answers = [
+        0, 0, 0, 0, 20, 10, 6, 16, 1, 146, 2, 1, 48, 194, 62, 9, 108, 111, 99, 97, 108, 104, 111,
+        115, 116, 0, 0, 0, 0, 23, 10, 6, 10, 0, 146, 2, 1, 48, 194, 62, 9, 108, 111, 99, 97, 108,
+        104, 111, 115, 116, 202, 62, 0,
+    ];
+    // A call, a status, an empty cancel and one with a body, around one flow.
+    let among = [
+        1, 0, 0, 0, 2, 47, 120, 2, 0, 0, 0, 2, 8, 5, 0, 0, 0, 0, 12, 10, 10, 10, 2, 8, 1, 16, 1,
+        146, 2, 1, 48, 3, 0, 0, 0, 0, 3, 0, 0, 0, 1, 255,
+    ];
+    // Bodies that would be taken as messages.
+    let spelled = [1, 0, 0, 0, 4, 10, 2, 16, 1, 2, 0, 0, 0, 4, 10, 2, 16, 1];
+    let cases: [(&[u8], &[u8]); 5] = [
+        (&[], &[]),
+        (&OK, &[]),
+        (&two, &two_answers),
+        (&among, &ANSWER),
+        (&spelled, &[]),
+    ];
+    for (file, frames) in cases {
+        assert!(rt; is_answered_by(rt, file, frames)?, "{file:?}");
     }
     Ok(())
 }
@@ -96,9 +135,7 @@ fn flow_of_letters(rt: HostRuntime, letters: u16) -> Result<Vec<u8>, Fail> {
 #[test]
 fn a_record_has_at_most_8192_bytes(rt: HostRuntime) -> Result<(), Fail> {
     for (letters, want) in [(8185, 0), (8186, 13)] {
-        let mut out = MemSink::new(rt.alloc())?;
-        let file = flow_of_letters(rt, letters)?;
-        let (code, _) = observed(rt, &mut shelf_of(rt, &file)?, &mut out)?;
+        let (code, _, _) = answered(rt, &flow_of_letters(rt, letters)?)?;
         assert_eq!(rt; code, want, "{letters} letters");
     }
     Ok(())
@@ -106,17 +143,20 @@ fn a_record_has_at_most_8192_bytes(rt: HostRuntime) -> Result<(), Fail> {
 
 #[test]
 fn another_form_is_refused(rt: HostRuntime) -> Result<(), Fail> {
-    let files: [&[u8]; 18] = [
-        // no whole frame, or more than one
+    let files: [&[u8]; 21] = [
+        // a frame that is not whole: in its head, in its body, and after a whole one
         &[0],
+        &[3, 0, 0, 0],
         &[0, 0, 0, 0, 12, 10],
+        &[1, 0, 0, 0, 1],
         &[0, 0, 0, 0, 8, 10, 6, 16, 1, 146, 2, 1, 48, 0],
-        &[0, 0, 0, 0, 4, 10, 2, 16, 1, 0, 0, 0, 0, 4, 10, 2, 16, 1],
-        // another kind
-        &[1, 0, 0, 0, 4, 10, 2, 16, 1],
-        &OK,
-        // no flow, or another member
+        &[0, 0, 0, 0, 4, 10, 2, 16, 1, 0, 0, 0, 0, 4, 10, 2, 16],
+        // a kind that is not known, and a body of 65,537 bytes
+        &[4, 0, 0, 0, 0],
+        &[3, 0, 1, 0, 1],
+        // no flow, or another member, also behind a flow
         &[0, 0, 0, 0, 0],
+        &[0, 0, 0, 0, 4, 10, 2, 16, 1, 0, 0, 0, 0, 0],
         &[0, 0, 0, 0, 2, 18, 0],
         &[0, 0, 0, 0, 3, 202, 62, 0],
         // a spelling that is not canonical
@@ -133,15 +173,87 @@ fn another_form_is_refused(rt: HostRuntime) -> Result<(), Fail> {
         &[0, 0, 0, 0, 6, 10, 4, 146, 2, 1, 255],
     ];
     for file in files {
-        let mut out = MemSink::new(rt.alloc())?;
-        let (code, line) = observed(rt, &mut shelf_of(rt, file)?, &mut out)?;
+        let (code, line, sent) = answered(rt, file)?;
         assert_eq!(rt;
             (code, line.as_str()),
             (13, "f: form not built"),
             "{file:?}"
         );
-        assert!(rt; out.sent().is_empty(), "{file:?}");
+        assert!(rt; sent.is_empty(), "{file:?}");
     }
+    Ok(())
+}
+
+#[test]
+fn a_body_has_at_most_65536_bytes(rt: HostRuntime) -> Result<(), Fail> {
+    for (head, letters, want) in [([1, 0, 1, 0, 0], 65_536, 0), ([1, 0, 1, 0, 1], 65_537, 13)] {
+        let mut file = head.to_vec(rt.alloc())?;
+        for _ in 0..letters {
+            file.push(b'x')?;
+        }
+        let (code, _, _) = answered(rt, &file)?;
+        assert_eq!(rt; code, want, "{letters} letters");
+    }
+    Ok(())
+}
+
+/// Appends a varint of one or two bytes.
+fn put_varint(out: &mut Vec<u8>, value: u16) -> Result<(), Fail> {
+    if value >= 128 {
+        out.push((value % 128 + 128) as u8)?;
+        out.push((value / 128 % 128) as u8)?;
+    } else {
+        out.push(value as u8)?;
+    }
+    Ok(())
+}
+
+/// Appends a byte, the length of a part of fewer than 128 bytes, and the part.
+fn put_part(out: &mut Vec<u8>, tag: u8, part: &[u8]) -> Result<(), Fail> {
+    out.push(tag)?;
+    out.push((part.len() % 128) as u8)?;
+    out.extend_from_slice(part)?;
+    Ok(())
+}
+
+/// The recording of flows 0, 1 and so on: the time of flow `n` is n + 1 s, its verdict FORWARDED
+/// and its uuid `n`.
+fn recording_of(rt: HostRuntime, count: u16) -> Result<Vec<u8>, Fail> {
+    let mut file = Vec::new(rt.alloc());
+    for number in 0..count {
+        let mut time = [8].to_vec(rt.alloc())?;
+        put_varint(&mut time, number.saturating_add(1))?;
+        let mut flow = Vec::new(rt.alloc());
+        put_part(&mut flow, 10, &time)?;
+        flow.extend_from_slice(&[16, 1, 146])?;
+        put_part(&mut flow, 2, number.to_string(rt.alloc())?.as_bytes())?;
+        let mut message = Vec::new(rt.alloc());
+        put_part(&mut message, 10, &flow)?;
+        file.extend_from_slice(&[0, 0, 0])?;
+        put_part(&mut file, 0, &message)?;
+    }
+    Ok(file)
+}
+
+#[test]
+fn the_newest_4095_flows_are_answered(rt: HostRuntime) -> Result<(), Fail> {
+    // Flow 905: time 906 s, uuid `905`.
+    let first = [
+        0, 0, 0, 0, 33, 10, 13, 10, 3, 8, 138, 7, 16, 1, 146, 2, 3, 57, 48, 53, 194, 62, 9, 108,
+        111, 99, 97, 108, 104, 111, 115, 116, 202, 62, 3, 8, 138, 7,
+    ];
+    // Flow 4,999: time 5,000 s, uuid `4999`; and the end.
+    let last = [
+        0, 0, 0, 0, 34, 10, 14, 10, 3, 8, 136, 39, 16, 1, 146, 2, 4, 52, 57, 57, 57, 194, 62, 9,
+        108, 111, 99, 97, 108, 104, 111, 115, 116, 202, 62, 3, 8, 136, 39, 2, 0, 0, 0, 0,
+    ];
+    let (code, _, sent) = answered(rt, &recording_of(rt, 5_000)?)?;
+    assert_eq!(rt; code, 0);
+    // Flows 905 to 999 take 38 bytes each, and 1,000 to 4,999 take 39.
+    let size = 95 * 38 + 4_000 * 39 + 5;
+    assert_eq!(rt; sent.len(), size);
+    assert_eq!(rt; sent.get(..38), Some(first.as_slice()));
+    assert_eq!(rt; sent.get(size - 44..), Some(last.as_slice()));
     Ok(())
 }
 

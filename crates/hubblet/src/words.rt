@@ -1,5 +1,5 @@
 //! The words of a command line.
-ghost use Rattle.std.specs.Prelude.{◌≡◌, ℕ, List, MatchOption};
+ghost use Rattle.std.specs.Prelude.{ℕ, List, MatchOption};
 ghost use Rattle.hubblet.specs.Words.{IsObserve};
 
 /// The file that `observe FILE --output frames` names, where the words are these.

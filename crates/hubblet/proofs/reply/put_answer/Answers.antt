@@ -6,5 +6,5 @@ use Rattle.hubblet.proofs.reply.put_answer.Goals as goal
 
 pub put_frame-requires : goal.put_frame-requires
 put_frame-requires c =
-    let body : c.deref.result.now ≡ response_bytes (handed_on c.args.name.now c.args.flow) = search rules in
-    omega (arith, ap length body, handed_on_length c.args.name.now c.args.flow, c.requires.kept.short, c.requires.name)
+    let body : c.as_slice.result.now ≡ response_bytes (handed_on c.args.answer.now.node_name c.args.flow) = search rules in
+    omega (arith, ap length body, handed_on_length c.args.answer.now.node_name c.args.flow, c.requires.kept.short, c.requires.name)

@@ -8,5 +8,8 @@ use Rattle.hubblet.proofs.reply.reply_of.Given as goal
 
 -- the frames so far are those of the window up to the position
 abbrev pub invariant-loop-position : goal.invariant-loop-position
-invariant-loop-position l = (log : List Flow) → Logs l.ring log
-    → l.frames.items ≡ flat_map (answer_frame l.name) (take (l.position - window_start (length log) 4095) (window 4095 log))
+invariant-loop-position l = record {
+  name : l.answer.node_name ≡ l.name;
+  frames : (log : List Flow) → Logs l.ring log
+      → l.frames.items ≡ flat_map (answer_frame l.name) (take (l.position - window_start (length log) 4095) (window 4095 log));
+}
