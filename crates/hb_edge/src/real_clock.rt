@@ -1,5 +1,5 @@
 //! The system's clock.
-ghost use Rattle.std.specs.Prelude.{◌≡◌, None};
+ghost use Rattle.std.specs.Prelude.{None};
 
 use crate::Clock;
 use std::cell::Cell;

@@ -1,6 +1,6 @@
 //! Reading a field.
 
-ghost use Rattle.std.specs.Prelude.{◌≡◌, ℕ, ◌+◌, ◌^◌, ◌<◌, ◌≤◌, ◌/◌, length, drop, slice_range, IfSome, MatchOption, IfOk, IfErr};
+ghost use Rattle.std.specs.Prelude.{◌≡◌, ℕ, ◌+◌, ◌<◌, ◌≤◌, ◌/◌, length, drop, slice_range, IfSome, MatchOption, IfOk, IfErr};
 ghost use Rattle.hb_wire.specs.Field.{Piece, piece_of, IsNumber, SpellsField, LiesAt};
 ghost use Rattle.hb_wire.specs.Reading.{fixed64_at, fixed32_at, body_at, content_at, field_at, numbered, found_piece, ReadsAt};
 

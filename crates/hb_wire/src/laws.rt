@@ -1,9 +1,9 @@
 //! The laws of the wire format.
 
-ghost use Rattle.std.specs.Prelude.{◌≡◌, ℕ, ◌+◌, ◌*◌, ◌^◌, ◌<◌, ◌≤◌, ◌↔◌, List, ◌∷◌, ◌++◌, length, take, Some};
+ghost use Rattle.std.specs.Prelude.{◌≡◌, ℕ, ◌+◌, ◌^◌, ◌<◌, ◌≤◌, ◌↔◌, List, ◌++◌, length, take, Some};
 ghost use Rattle.std.specs.List.{AllByRecursion};
 ghost use Rattle.hb_wire.specs.Varint.{IsVarint, AreBytes, varint};
-ghost use Rattle.hb_wire.specs.Field.{Piece, PieceFits, SpellsField, LiesAt, IsNumber, spelled, spelling};
+ghost use Rattle.hb_wire.specs.Field.{Piece, PieceFits, SpellsField, LiesAt, spelled, spelling};
 ghost use Rattle.hb_wire.specs.Reading.{varint_at, field_at};
 
 /// The shortest varint of each number spells it, reads back whatever follows, and is one to ten

@@ -1,6 +1,6 @@
 //! Writing varints and fields at the end of a vector.
 
-ghost use Rattle.std.specs.Prelude.{◌≡◌, ℕ, ◌+◌, ◌*◌, ◌^◌, ◌<◌, ◌≤◌, ◌++◌, length, take, OnOk, OnErr};
+ghost use Rattle.std.specs.Prelude.{◌≡◌, ◌+◌, ◌*◌, ◌^◌, ◌<◌, ◌≤◌, ◌++◌, length, take, OnOk, OnErr};
 ghost use Rattle.hb_wire.specs.Varint.{varint};
 ghost use Rattle.hb_wire.specs.Field.{Body, Varint, IsNumber, spelled};
 

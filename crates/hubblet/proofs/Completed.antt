@@ -56,7 +56,7 @@ completes_write_fault name bytes file frames write_failed same short answered fa
 }
 
 -- words name one file
-pub one_name : (words : List (String Global)) (a b : List ℕ) → IsObserve words a → IsObserve words b → a ≡ b
+one_name : (words : List (String Global)) (a b : List ℕ) → IsObserve words a → IsObserve words b → a ≡ b
 one_name words a b p q = ap (λ (ws : List (List ℕ)). get_or ws 1 []) (sym p ∙ q)
 
 -- what came of a file by one name came of it by the name that the words have

@@ -2,6 +2,7 @@
 use Rattle.std.proofs.Common.{◌≡◌, ℕ, ◌<◌, ◌^◌, List, [], ◌∷◌, ◌++◌, length, take, drop, get_or, append_assoc, refl, sym, ap, ◌∙◌, arith}
 use Rattle.std.specs.Int.{w32, to_be_bytes, from_be_bytes}
 use Rattle.std.specs.List.{flat_map, AllByRecursion}
+use Rattle.std.proofs.Math.Seq.{take-append_seam, drop-append_seam}
 use Rattle.std.proofs.lemmas.List.{append-nil}
 use Rattle.std.proofs.lemmas.List.Concat.{flat_map-append}
 use Rattle.std.proofs.lemmas.Nat.{from_be_bytes-to_be_bytes_4}
@@ -12,13 +13,10 @@ length_once m n p q e = sym (from_be_bytes-to_be_bytes_4 m p) ∙ ap (from_be_by
 
 -- two lists of one length that begin the same items
 front_once : (xs ys x y : List ℕ) → length xs ≡ length ys → xs ++ x ≡ ys ++ y → (xs ≡ ys) × (x ≡ y)
-front_once [] [] x y p e = (refl, e)
-front_once [] (b ∷ ys) x y p e = absurd (omega (arith, p))
-front_once (a ∷ xs) [] x y p e = absurd (omega (arith, p))
-front_once (a ∷ xs) (b ∷ ys) x y p e =
-    let rest = front_once xs ys x y (omega (arith, p)) (ap (drop 1) e) in
-    let first : take 1 (a ∷ xs ++ x) ≡ take 1 (b ∷ ys ++ y) = ap (take 1) e in
-    (ap (λ (f : List ℕ). f ++ xs) first ∙ ap (λ (r : List ℕ). b ∷ r) rest.0, rest.1)
+front_once xs ys x y p e = (
+  sym (take-append_seam xs x) ∙ ap (take (length xs)) e ∙ ap (λ n. take n (ys ++ y)) p ∙ take-append_seam ys y,
+  sym (drop-append_seam xs x) ∙ ap (drop (length xs)) e ∙ ap (λ n. drop n (ys ++ y)) p ∙ drop-append_seam ys y,
+)
 
 -- a frame by its fields
 same_frame : (f g : Frame) → f.kind ∷ [] ≡ g.kind ∷ [] → f.body ≡ g.body → f ≡ g

@@ -1,9 +1,9 @@
 -- Reading a recording frame by frame: what was read up to a place, and what a frame adds or shows.
-use Rattle.std.proofs.Common.{◌≡◌, ℕ, zero, suc, ◌+◌, ◌<◌, ◌≤◌, List, [], ◌∷◌, ◌++◌, length, drop, get_or, map, Option, Some, refl, sym, ap, subst, ◌∙◌, arith, length-append}
+use Rattle.std.proofs.Common.{◌≡◌, ℕ, zero, suc, ◌+◌, ◌<◌, ◌≤◌, ◌^◌, List, [], ◌∷◌, ◌++◌, length, drop, get_or, map, Option, Some, refl, sym, ap, subst, ◌∙◌, arith, length-append}
 use Rattle.std.specs.Prelude.{IfSome, is_some}
 use Rattle.std.specs.List.{AllByRecursion, flat_map}
 use Rattle.std.proofs.Math.Dec.{eqb-suc-zero}
-use Rattle.std.proofs.lemmas.List.{append-nil, map-append}
+use Rattle.std.proofs.lemmas.List.{append-nil, map-append, nil_from_length}
 use Rattle.std.proofs.lemmas.List.Elements.{filter_map-append}
 use Rattle.hb_flow.specs.Messages.{response_bytes, record_bytes, FlowFits}
 use Rattle.hb_flow.specs.declared.flow.Flow.{Flow}
@@ -16,7 +16,7 @@ use Rattle.hubblet.specs.Ingest.{IsKept, Logs, Ingests, SpellsFlow, TakesMessage
 use Rattle.hubblet.specs.declared.recording.Untaken.{Untaken}
 use Rattle.hubblet.specs.declared.recording.Untaken.TheVariants.{OtherForm, NoMemory}
 use Rattle.hubblet.proofs.Cuts.{cut_once, cut_first, frames_with, nothing_starts, others_of}
-use Rattle.hubblet.proofs.Formed.{one_answer, at_some}
+use Rattle.hubblet.proofs.Recorded.{one_answer, at_some}
 
 -- what was read of a file up to a rest: whole frames, whose messages are answers that are taken, with their flows in the ring
 pub record HasIngested (file rest : List ℕ) (ring : Kept) : Type 0 where
@@ -40,10 +40,6 @@ ingested_none file ring stands = record {
   logs = record { stands = stands; kept = tt };
 }
 
-no_items : (xs : List ℕ) → length xs ≡ 0 → xs ≡ []
-no_items [] e = refl
-no_items (x ∷ xs) e = absurd (omega (arith, e))
-
 -- at the end the file
 pub ingested_all : (file rest : List ℕ) (ring : Kept) → HasIngested file rest ring → length rest ≡ 0 → Ingests file ring
 ingested_all file rest ring has none = record {
@@ -51,7 +47,7 @@ ingested_all file rest ring has none = record {
   recorded = record {
     frames = has.frames;
     cut = record {
-      whole = has.whole ∙ ap (λ (r : List ℕ). flat_map frame_bytes has.frames ++ r) (no_items rest none);
+      whole = has.whole ∙ ap (λ (r : List ℕ). flat_map frame_bytes has.frames ++ r) (nil_from_length rest none);
       fit = has.fit;
       longest = nothing_starts;
     };
@@ -171,7 +167,7 @@ other_message file rest body after ring has starts none = record {
 }
 
 -- a message whose flow's record is too long is not taken
-pub other_record : (body : List ℕ) (flow : Flow) → length body ≤ 65536 → SpellsFlow body flow → 8192 < length (record_bytes flow) → IsOtherMessage body
+pub other_record : (body : List ℕ) (flow : Flow) → length body < 2 ^ 64 → SpellsFlow body flow → 8192 < length (record_bytes flow) → IsOtherMessage body
 other_record body flow short spells long r taken e =
     let same : spells.response ≡ r = one_answer body spells.response r short spells.fits taken.fits spells.spelled e in
     let holds : r.flow ≡ Some flow = ap (λ (x : GetFlowsResponse). x.flow) (sym same) ∙ spells.holds in

@@ -1,9 +1,9 @@
 pub mod Answered
 pub mod Completed
 pub mod Cuts
-pub mod Formed
 pub mod FourWords
 pub mod Ingested
+pub mod Recorded
 pub mod Records
 pub mod Sizes
 pub mod Spelled

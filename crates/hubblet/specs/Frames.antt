@@ -16,7 +16,7 @@ pub record Frame : Type 0 where
 abbrev pub frame_bytes : Frame → List ℕ
 frame_bytes f = frame f.kind f.body
 
--- a frame that may be sent
+-- it has a known kind, and a body that is not too long
 pub record IsFrame (f : Frame) : Type 0 where
   pub known : f.kind ≤ greatest_kind
   pub short : length f.body ≤ longest_body

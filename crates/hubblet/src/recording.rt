@@ -2,7 +2,6 @@
 ghost use Rattle.std.specs.Prelude.{◌≡◌, ◌<◌, ◌≤◌, ◌^◌, ℕ, List, [], ◌∷◌, ◌++◌, length, IfOk, IfErr, OnOk};
 ghost use Rattle.hb_flow.specs.Messages.{record_bytes};
 ghost use Rattle.hb_listring.specs.Log.{StandsFor};
-ghost use Rattle.hubblet.specs.Limits.{longest_body};
 ghost use Rattle.hubblet.specs.Recording.{IsOtherForm};
 ghost use Rattle.hubblet.specs.Ingest.{SpellsFlow, IsOtherMessage, TakesMessage, IsUntaken, Ingests};
 
@@ -49,7 +48,7 @@ impl From<NoMemory> for Untaken {
 }
 
 /// Puts the records of a recording's flows into an empty ring, in order. The cost of a frame goes by
-/// its own length, and what is spelled of it has one vector for all frames.
+/// its own length. What is spelled goes into one vector that all frames share.
 pub fn ingest(alloc: Global, file: &[u8], ring: &mut ListRing) -> Result<(), Untaken>
     requires empty { StandsFor ring.old [] }
     requires slot { ring.old.slot ≡ RECORD }
@@ -78,7 +77,6 @@ fn take_message(
     scratch: &mut Vec<u8>,
     ring: &mut ListRing,
 ) -> Result<(), Untaken>
-    requires short { length body.now ≤ longest_body }
     requires slot { ring.old.slot ≡ RECORD }
     requires room { ring.old.written < 2 ^ 62 }
     ensures ok { OnOk result (TakesMessage body.now ring.old ring.new) }

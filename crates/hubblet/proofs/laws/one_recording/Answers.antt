@@ -1,4 +1,4 @@
-use Rattle.hubblet.proofs.Formed.{recorded_once}
+use Rattle.hubblet.proofs.Recorded.{recorded_once}
 use Rattle.hubblet.proofs.laws.one_recording.Goals as goal
 
 pub returns : goal.returns

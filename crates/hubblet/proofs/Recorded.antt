@@ -1,5 +1,5 @@
 -- A file is the recording of one list of answers at most.
-use Rattle.std.proofs.Common.{◌≡◌, ℕ, ◌≤◌, Bool, true, false, List, [], ◌∷◌, length, drop, get_or, map, Option, Some, None, refl, sym, ap, subst, ◌∙◌, arith}
+use Rattle.std.proofs.Common.{◌≡◌, ℕ, ◌<◌, ◌≤◌, ◌^◌, Bool, true, false, List, [], ◌∷◌, length, drop, get_or, map, Option, Some, None, refl, sym, ap, subst, ◌∙◌, arith}
 use Rattle.std.specs.Prelude.{IfSome, if◌then◌else◌, ◌==◌}
 use Rattle.std.specs.List.{AllByRecursion, cons_option}
 use Rattle.hb_flow.specs.Messages.{response_bytes, ResponseFits}
@@ -10,8 +10,8 @@ use Rattle.hubblet.proofs.Cuts.{cut_once}
 use Rattle.hubblet.proofs.Records.{spelling_reads}
 
 -- two spellings of one body are of one answer
-pub one_answer : (body : List ℕ) (r s : GetFlowsResponse) → length body ≤ 65536 → ResponseFits r → ResponseFits s → body ≡ response_bytes r → body ≡ response_bytes s → r ≡ s
-one_answer body r s short p q e f = sym (spelling_reads body r p (omega arith) e) ∙ spelling_reads body s q (omega arith) f
+pub one_answer : (body : List ℕ) (r s : GetFlowsResponse) → length body < 2 ^ 64 → ResponseFits r → ResponseFits s → body ≡ response_bytes r → body ≡ response_bytes s → r ≡ s
+one_answer body r s short p q e f = sym (spelling_reads body r p short e) ∙ spelling_reads body s q short f
 
 pub at_some : {A : Type 0} (P : A → Type 0) (o : Option A) (x : A) → o ≡ Some x → IfSome o P → P x
 at_some P o x e h = let there : IfSome (Some x) P = subst (λ (p : Option _). IfSome p P) e h in there
@@ -34,7 +34,7 @@ answers_once [] (s ∷ ss) short p q e = absurd (omega (arith, ap length e))
 answers_once (r ∷ rs) [] short p q e = absurd (omega (arith, ap length e))
 answers_once (r ∷ rs) (s ∷ ss) short p q e =
     let first : response_bytes r ≡ response_bytes s = ap (λ (bs : List (List ℕ)). get_or bs 0 []) e in
-    let same : r ≡ s = one_answer (response_bytes r) r s short.0 p.0.fits q.0.fits refl first in
+    let same : r ≡ s = one_answer (response_bytes r) r s (omega (arith, short.0)) p.0.fits q.0.fits refl first in
     let others : rs ≡ ss = answers_once rs ss short.1 p.1 q.1 (ap (drop 1) e) in
     ap (λ (x : GetFlowsResponse). x ∷ rs) same ∙ ap (λ (xs : List GetFlowsResponse). s ∷ xs) others
 
