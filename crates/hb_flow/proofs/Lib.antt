@@ -2,7 +2,10 @@ pub mod Loop
 pub mod Spellings
 pub mod Texts
 pub mod Pieces
+pub mod NotKnown
 pub mod Records
 pub mod Again
 pub mod Joining
 pub mod ByNumber
+pub mod Fitting
+pub mod Least

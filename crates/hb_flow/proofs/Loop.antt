@@ -1,10 +1,10 @@
--- Going through a message's bytes field by field: each step keeps the fault and the fields of all.
-use Rattle.std.proofs.Common.{◌≡◌, ℕ, zero, suc, ◌+◌, ◌-◌, ◌<◌, ◌≤◌, List, [], ◌∷◌, length, drop, Option, Some, None, Err, refl, sym, ap, ◌∙◌, arith}
+-- Going through a message's bytes field by field: each step keeps the fault and the parts of all.
+use Rattle.std.proofs.Common.{◌≡◌, ℕ, zero, suc, ◌+◌, ◌-◌, ◌<◌, ◌≤◌, List, [], ◌∷◌, length, take, drop, Option, Some, None, Err, refl, sym, ap, ◌∙◌, arith}
 use Rattle.std.specs.List.{fold}
 use Rattle.std.proofs.lemmas.List.{length-drop, drop-drop}
 use Rattle.hb_wire.specs.Field.{Piece}
 use Rattle.hb_wire.specs.Reading.{field_at, varint_at, varint_from}
-use Rattle.hb_flow.specs.Fields.{fields_of}
+use Rattle.hb_flow.specs.Fields.{Part, parts_of}
 use Rattle.hb_flow.specs.Faults.{Check, content_fault, first_fault, Answers}
 use Rattle.hb_flow.specs.declared.fault.DecodeFault.{DecodeFault}
 use Rattle.hb_flow.specs.declared.fault.DecodeFault.TheVariants.{Malformed, BadUtf8, NoMemory}
@@ -14,10 +14,10 @@ pub field_at_nil : field_at [] ≡ None
 unfolding field_at varint_at varint_from
 field_at_nil = refl
 
-pub fields_nil : (most : ℕ) → fields_of most [] ≡ []
-unfolding fields_of
-fields_nil zero = refl
-fields_nil (suc most) = rw field_at_nil refl
+pub parts_nil : (most : ℕ) → parts_of most [] ≡ []
+unfolding parts_of
+parts_nil zero = refl
+parts_nil (suc most) = rw field_at_nil refl
 
 pub fault_nil : (check : Check) (most place : ℕ) → first_fault check most place [] ≡ None
 unfolding first_fault
@@ -48,10 +48,11 @@ module _ (check : Check) (place : ℕ) where
   fault_after zero (b ∷ bytes) p n some fits e h = absurd (omega arith)
   fault_after (suc most) (b ∷ bytes) p n some fits e h = let k : suc most - 1 ≡ most = omega arith in rw (e, h, k) refl
 
-pub fields_after : (most : ℕ) (bytes : List ℕ) (p : Piece) (n : ℕ) → 0 < most → field_at bytes ≡ Some (p, n) → fields_of most bytes ≡ p ∷ fields_of (most - 1) (drop n bytes)
-unfolding fields_of
-fields_after zero bytes p n some e = absurd (omega arith)
-fields_after (suc most) bytes p n some e = let k : suc most - 1 ≡ most = omega arith in rw (e, k) refl
+pub parts_after : (most : ℕ) (bytes : List ℕ) (p : Piece) (n : ℕ) → 0 < most → field_at bytes ≡ Some (p, n)
+    → parts_of most bytes ≡ record { raw = take n bytes; field = p } ∷ parts_of (most - 1) (drop n bytes)
+unfolding parts_of
+parts_after zero bytes p n some e = absurd (omega arith)
+parts_after (suc most) bytes p n some e = let k : suc most - 1 ≡ most = omega arith in rw (e, k) refl
 
 -- what is left at a place has a byte, and no more than there may be
 left_some : (at most : ℕ) (bytes : List ℕ) → at < length bytes → length bytes - at ≤ most → (0 < length (drop at bytes)) × (length (drop at bytes) ≤ most)
@@ -77,13 +78,15 @@ module _ (check : Check) (most place at end : ℕ) (bytes : List ℕ) (total : O
       let after = fault_after check (place + at) most (drop at bytes) p (end - at) some.0 some.1 e (rw there h) in
       sym (rw (there, drop-drop (end - at) at bytes, here) at after) ∙ so_far
 
-pub fields_go_on : {M : Type 0} (after : M → Piece → M) (most at end : ℕ) (bytes : List ℕ) (p : Piece) (m new total : M) → at < length bytes → length bytes - at ≤ most → at ≤ end
-    → field_at (drop at bytes) ≡ Some (p, end - at) → fold after m (fields_of most (drop at bytes)) ≡ total → new ≡ after m p → fold after new (fields_of (most - 1) (drop end bytes)) ≡ total
-fields_go_on after most at end bytes p m new total lt fits le e so_far is =
+pub parts_go_on : {M : Type 0} (after : M → Part → M) (most at end : ℕ) (bytes raw : List ℕ) (p : Piece) (m new total : M) → at < length bytes → length bytes - at ≤ most → at ≤ end
+    → field_at (drop at bytes) ≡ Some (p, end - at) → raw ≡ take (end - at) (drop at bytes) → fold after m (parts_of most (drop at bytes)) ≡ total
+    → new ≡ after m (record { raw = raw; field = p }) → fold after new (parts_of (most - 1) (drop end bytes)) ≡ total
+parts_go_on after most at end bytes raw p m new total lt fits le e cut so_far is =
     let here : at + (end - at) ≡ end = omega arith in
-    let more = fields_after most (drop at bytes) p (end - at) (omega arith) e in
-    let more2 : fields_of most (drop at bytes) ≡ p ∷ fields_of (most - 1) (drop end bytes) = rw (drop-drop (end - at) at bytes, here) at more in
-    rw is (ap (fold after m) (sym more2) ∙ so_far)
+    let more = parts_after most (drop at bytes) p (end - at) (omega arith) e in
+    let more2 : parts_of most (drop at bytes) ≡ record { raw = take (end - at) (drop at bytes); field = p } ∷ parts_of (most - 1) (drop end bytes) =
+    rw (drop-drop (end - at) at bytes, here) at more in
+    rw (is, cut) (ap (fold after m) (sym more2) ∙ so_far)
 
 -- a fault inside a field, as a reader answers it
 pub stops_at : {X : Type 0} (check : Check) (most place at end : ℕ) (bytes : List ℕ) (total : Option DecodeFault) → at < length bytes → length bytes - at ≤ most

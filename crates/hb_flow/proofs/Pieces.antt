@@ -1,38 +1,72 @@
 -- Bytes that are the spelling of fields: what they divide into, and that they have no fault.
-use Rattle.std.proofs.Common.{◌≡◌, ℕ, ◌+◌, ◌-◌, ◌*◌, ◌<◌, ◌≤◌, ◌^◌, List, [], ◌∷◌, ◌++◌, length, drop, None, refl, ap, ◌∙◌, arith, length-append}
-use Rattle.std.specs.List.{AllByRecursion}
+use Rattle.std.proofs.Common.{◌≡◌, ℕ, ◌+◌, ◌-◌, ◌*◌, ◌<◌, ◌≤◌, ◌^◌, List, [], ◌∷◌, ◌++◌, length, drop, map, None, refl, sym, ap, ◌∙◌, arith, length-append}
+use Rattle.std.specs.List.{AllByRecursion, flat_map}
 use Rattle.std.proofs.lemmas.List.{drop_at}
+use Rattle.std.proofs.lemmas.List.Concat.{flat_map-append}
 use Rattle.hb_wire.specs.Varint.{varint}
-use Rattle.hb_wire.specs.Field.{Content, Varint, Fixed64, Body, Fixed32, Piece, IsNumber, ContentFits, PieceFits, wire_type, spelled, spelled_content, spelling}
-use Rattle.hb_wire.proofs.FieldLemmas.{field_again, spelled_some}
-use Rattle.hb_flow.specs.Fields.{fields_of}
-use Rattle.hb_flow.specs.Faults.{Check, content_fault, first_fault}
-use Rattle.hb_flow.proofs.Loop.{fields_nil, fields_after, fault_nil, fault_after}
+use Rattle.hb_wire.specs.Field.{Content, Varint, Fixed64, Body, Fixed32, Piece, IsNumber, ContentFits, PieceFits, SpellsField, wire_type, spelled, spelled_content, spelling}
+use Rattle.hb_wire.proofs.FieldLemmas.{field_reads, field_front, spelled_is}
+use Rattle.hb_flow.specs.Fields.{Part, parts, Row}
+use Rattle.hb_flow.specs.Faults.{Check, content_fault, first_fault, message_fault}
+use Rattle.hb_flow.specs.Messages.{SpellUnknown}
+use Rattle.hb_flow.proofs.Loop.{fault_nil, fault_after}
+use Rattle.hb_flow.proofs.Joining.{spelled_divide}
 
 pub all_append : {A : Type 0} (P : A → Type 0) (xs ys : List A) → AllByRecursion P xs → AllByRecursion P ys → AllByRecursion P (xs ++ ys)
 all_append P [] ys p q = q
 all_append P (x ∷ xs) ys p q = (p.0, all_append P xs ys p.1 q)
 
--- the spelling of fields divides into them
-pub fields_again : (ps : List Piece) (most : ℕ) → AllByRecursion PieceFits ps → length (spelling ps) ≤ most → fields_of most (spelling ps) ≡ ps
-fields_again [] most fits room = fields_nil most
-fields_again (p ∷ ps) most fits room =
-    let some = spelled_some p in
-    let size = length-append (spelled p) (spelling ps) in
-    let first = fields_after most (spelling (p ∷ ps)) p (length (spelled p)) (omega arith) (field_again p (spelling ps) fits.0) in
-    let rest : drop (length (spelled p)) (spelling (p ∷ ps)) ≡ spelling ps = drop_at (spelled p) (spelling ps) (length (spelled p)) refl in
-    first ∙ ap (λ (bs : List ℕ). p ∷ fields_of (most - 1) bs) rest ∙ ap (λ (qs : List Piece). p ∷ qs) (fields_again ps (most - 1) fits.1 (omega arith))
+-- the part of a field in its canonical spelling
+abbrev pub canonical : Piece → Part
+canonical piece = record { raw = spelled piece; field = piece }
 
--- it has no fault, where no body has one
-pub no_fault_again : (check : Check) (ps : List Piece) (most place : ℕ) → AllByRecursion PieceFits ps → AllByRecursion (λ p. (end : ℕ) → content_fault check end p ≡ None) ps
-    → length (spelling ps) ≤ most → first_fault check most place (spelling ps) ≡ None
-no_fault_again check [] most place fits clean room = fault_nil check most place
-no_fault_again check (p ∷ ps) most place fits clean room =
-    let some = spelled_some p in
-    let size = length-append (spelled p) (spelling ps) in
-    let first = fault_after check place most (spelling (p ∷ ps)) p (length (spelled p)) (omega arith) room (field_again p (spelling ps) fits.0) (clean.0 (place + length (spelled p))) in
-    let rest : drop (length (spelled p)) (spelling (p ∷ ps)) ≡ spelling ps = drop_at (spelled p) (spelling ps) (length (spelled p)) refl in
-    first ∙ ap (first_fault check (most - 1) (place + length (spelled p))) rest ∙ no_fault_again check ps (most - 1) (place + length (spelled p)) fits.1 clean.1 (omega arith)
+-- fields that are spelled canonically, and then others, as parts
+abbrev pub AreSpelled : List Part → Type 0
+AreSpelled = AllByRecursion (λ p. SpellsField p.raw p.field)
+
+pub canonical_spelled : (ps : List Piece) → AllByRecursion PieceFits ps → AreSpelled (map canonical ps)
+canonical_spelled [] fits = tt
+canonical_spelled (p ∷ ps) fits = (spelled_is p fits.0, canonical_spelled ps fits.1)
+
+pub canonical_bytes : (ps : List Piece) → flat_map (λ (p : Part). p.raw) (map canonical ps) ≡ spelling ps
+canonical_bytes [] = refl
+canonical_bytes (p ∷ ps) = ap (λ (bs : List ℕ). spelled p ++ bs) (canonical_bytes ps)
+
+-- a field is spelled by some bytes
+field_some : (raw : List ℕ) (field : Piece) → SpellsField raw field → 0 < length raw
+field_some raw field spells = (field_front (raw ++ []) field (length raw) (field_reads raw [] field spells)).some
+
+-- bytes that spell fields have no fault, where no body has one
+pub no_fault_spelled : (check : Check) (ps : List Part) (most place : ℕ) → AreSpelled ps → AllByRecursion (λ p. (end : ℕ) → content_fault check end p.field ≡ None) ps
+    → length (flat_map (λ (p : Part). p.raw) ps) ≤ most → first_fault check most place (flat_map (λ (p : Part). p.raw) ps) ≡ None
+no_fault_spelled check [] most place spelled clean room = fault_nil check most place
+no_fault_spelled check (p ∷ ps) most place spelled clean room =
+    let rest = flat_map (λ (q : Part). q.raw) ps in
+    let some = field_some p.raw p.field spelled.0 in
+    let size = length-append p.raw rest in
+    let first = fault_after check place most (p.raw ++ rest) p.field (length p.raw) (omega arith) room (field_reads p.raw rest p.field spelled.0) (clean.0 (place + length p.raw)) in
+    let left : drop (length p.raw) (p.raw ++ rest) ≡ rest = drop_at p.raw rest (length p.raw) refl in
+    first ∙ ap (first_fault check (most - 1) (place + length p.raw)) left ∙ no_fault_spelled check ps (most - 1) (place + length p.raw) spelled.1 clean.1 (omega arith)
+
+module _ (row : Row) (ps : List Piece) (kept : List ℕ) (is : SpellUnknown row kept) (fits : AllByRecursion PieceFits ps) where
+  all_bytes : spelling ps ++ kept ≡ flat_map (λ (p : Part). p.raw) (map canonical ps ++ is.parts)
+  all_bytes = ap (λ (bs : List ℕ). bs ++ kept) (sym (canonical_bytes ps)) ∙ ap (λ (bs : List ℕ). flat_map (λ (p : Part). p.raw) (map canonical ps) ++ bs) is.whole
+      ∙ sym (flat_map-append (λ (p : Part). p.raw) (map canonical ps) is.parts)
+
+  all_spelled : AreSpelled (map canonical ps ++ is.parts)
+  all_spelled = all_append (λ (p : Part). SpellsField p.raw p.field) (map canonical ps) is.parts (canonical_spelled ps fits) is.spelled
+
+  -- canonical fields and bytes that are kept divide into both
+  pub parts_again : parts (spelling ps ++ kept) ≡ map canonical ps ++ is.parts
+  parts_again = ap parts all_bytes ∙ spelled_divide (map canonical ps ++ is.parts) all_spelled
+
+  -- and have no fault, where no body has one
+  pub no_fault_again : (check : Check) (place : ℕ) → AllByRecursion (λ p. (end : ℕ) → content_fault check end p.field ≡ None) (map canonical ps)
+      → AllByRecursion (λ p. (end : ℕ) → content_fault check end p.field ≡ None) is.parts → message_fault check place (spelling ps ++ kept) ≡ None
+  no_fault_again check place clean clean' =
+      ap (message_fault check place) all_bytes
+      ∙ no_fault_spelled check (map canonical ps ++ is.parts) (length (flat_map (λ (p : Part). p.raw) (map canonical ps ++ is.parts))) place all_spelled
+      (all_append (λ (p : Part). (end : ℕ) → content_fault check end p.field ≡ None) (map canonical ps) is.parts clean clean') (omega arith)
 
 -- what fits but for the length of its body
 abbrev pub NumberFits : Content → Type 0

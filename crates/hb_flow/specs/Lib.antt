@@ -1,4 +1,5 @@
 pub mod Messages
 pub mod Fields
 pub mod Faults
+pub mod AllFaults
 pub mod Steps

@@ -5,19 +5,20 @@ ghost use Rattle.hb_flow.specs.Steps.{flow_after};
 
 use crate::message::Message;
 use crate::numbers::{int32, of_signed};
-use crate::parts::{merge_stamp, text_of};
-use crate::writing::{put_number, put_optional, put_text};
+use crate::parts::{keep_unknown, merge_stamp, text_of};
+use crate::writing::{put_number, put_optional, put_text, put_unknown};
 use crate::{DecodeFault, Stamp};
-use hb_wire::{Field, NoMemory, Text};
+use hb_wire::{Field, NoMemory, Seq, Text};
 use std::alloc::Global;
 
-/// A flow: when it was seen, what was decided about it (Cilium's enum `Verdict`, any number), and
-/// its name.
+/// A flow: when it was seen, what was decided about it (Cilium's enum `Verdict`, any number), its
+/// name, and the bytes of its fields that are not known, in the order in which they came.
 #[derive(Debug, Drop)]
 pub struct Flow {
     pub time: Option<Stamp>,
     pub verdict: i32,
     pub uuid: Text,
+    pub unknown: Seq<u8>,
 }
 
 impl Message for Flow {
@@ -28,7 +29,13 @@ impl Message for Flow {
     ghost spelled = { flow_bytes };
 
     #[tactic(auto, unfolding(crate::specs::Faults::flow_check))]
-    fn take(&mut self, alloc: Global, field: Field<'_>, end: usize) -> Result<(), DecodeFault> {
+    fn take(
+        &mut self,
+        alloc: Global,
+        field: Field<'_>,
+        raw: &[u8],
+        end: usize,
+    ) -> Result<(), DecodeFault> {
         match field {
             Field::Body { number: 1, body } => {
                 match merge_stamp(alloc, self.time, body, end - body.len()) {
@@ -41,30 +48,16 @@ impl Message for Flow {
                 Ok(uuid) => self.uuid = uuid,
                 Err(fault) => return Err(fault),
             },
-            _ => {}
+            _ => return keep_unknown(&mut self.unknown, raw),
         }
         Ok(())
     }
 
-    #[tactic(auto, using(crate::proofs::Spellings::spelling_three), unfolding(crate::specs::Messages::flow_bytes))]
+    #[tactic(auto, using(crate::proofs::Spellings::spelling_kept), unfolding(crate::specs::Messages::flow_bytes))]
     fn put(&self, out: &mut Vec<u8>) -> Result<(), NoMemory> {
         put_optional(out, 1, &self.time)?;
         put_number(out, 2, of_signed(i64::from(self.verdict)))?;
-        put_text(out, 34, self.uuid.as_str())
-    }
-}
-
-impl Flow {
-    ghost use Rattle.hb_flow.specs.Messages.{FlowFits};
-
-    /// What the types of its fields say: it has a spelling.
-    pub(crate) fn known(&self)
-        ensures { FlowFits self.now }
-    {
-        if let Some(time) = &self.time {
-            time.known();
-        }
-        let _verdict = self.verdict;
-        let _uuid = self.uuid.as_str();
+        put_text(out, 34, self.uuid.as_str())?;
+        put_unknown(out, &self.unknown)
     }
 }

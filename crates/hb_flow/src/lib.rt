@@ -18,7 +18,7 @@ mod writing;
 
 pub use fault::DecodeFault;
 pub use flow::Flow;
-pub use laws::{spelled_fields, written_is_read};
+pub use laws::{least_fault, read_fits, spelled_fields, written_is_read};
 pub use record::{event_of, record_of};
 pub use response::GetFlowsResponse;
 pub use stamp::Stamp;

@@ -1,11 +1,11 @@
-//! What the body of a field is read as: a text, or a part of a message that came before.
-ghost use Rattle.std.specs.Prelude.{◌≡◌, ◌+◌, ◌<◌, ◌^◌, length};
+//! What a field is read as: a text, a part of a message that came before, or bytes that are kept.
+ghost use Rattle.std.specs.Prelude.{◌≡◌, ◌+◌, ◌<◌, ◌^◌, ◌++◌, length, None, IfOk};
 ghost use Rattle.hb_flow.specs.Faults.{Answers, message_fault, text_fault, stamp_check, flow_check};
-ghost use Rattle.hb_flow.specs.Steps.{stamp_merged, flow_merged};
+ghost use Rattle.hb_flow.specs.Steps.{no_flow, stamp_merged, flow_merged};
 
 use crate::message::merge;
 use crate::{DecodeFault, Flow, Stamp};
-use hb_wire::Text;
+use hb_wire::{NoMemory, Seq, Text};
 use std::alloc::Global;
 
 /// The text of a body, which stands at this place.
@@ -39,6 +39,18 @@ pub(crate) fn merge_stamp(
     }
 }
 
+/// The flow of no field.
+fn no_flow(alloc: Global) -> Result<Flow, NoMemory>
+    ensures { IfOk result (λ flow. flow ≡ no_flow) }
+{
+    Ok(Flow {
+        time: None,
+        verdict: 0,
+        uuid: Text::empty(alloc),
+        unknown: Seq::new(alloc)?,
+    })
+}
+
 /// The flow with all the fields of one more body, which stands at this place.
 pub(crate) fn merge_flow(
     alloc: Global,
@@ -52,14 +64,23 @@ pub(crate) fn merge_flow(
 {
     let mut flow = match before {
         Some(flow) => flow,
-        None => Flow {
-            time: None,
-            verdict: 0,
-            uuid: Text::empty(alloc),
+        None => match no_flow(alloc) {
+            Ok(flow) => flow,
+            Err(_) => return Err(DecodeFault::NoMemory),
         },
     };
     match merge(alloc, &mut flow, body, place) {
         Ok(()) => Ok(flow),
         Err(fault) => Err(fault),
+    }
+}
+
+/// Keeps the bytes of a field that is not known, behind those of the ones before it.
+pub(crate) fn keep_unknown(unknown: &mut Seq<u8>, raw: &[u8]) -> Result<(), DecodeFault>
+    ensures { Answers result None (λ _. unknown.new ≡ unknown.old ++ raw.now) }
+{
+    match unknown.extend_from_slice(raw) {
+        Ok(()) => Ok(()),
+        Err(_) => Err(DecodeFault::NoMemory),
     }
 }

@@ -5,18 +5,20 @@ ghost use Rattle.hb_flow.specs.Messages.{response_bytes};
 ghost use Rattle.hb_flow.specs.Steps.{response_after};
 
 use crate::message::{Message, merge};
-use crate::parts::{merge_flow, merge_stamp, text_of};
-use crate::writing::{put_optional, put_text};
+use crate::parts::{keep_unknown, merge_flow, merge_stamp, text_of};
+use crate::writing::{put_optional, put_text, put_unknown};
 use crate::{DecodeFault, Flow, Stamp};
-use hb_wire::{Field, NoMemory, Text};
+use hb_wire::{Field, NoMemory, Seq, Text};
 use std::alloc::Global;
 
-/// An answer with the flow that it holds, the node that saw it and when.
+/// An answer with the flow that it holds, the node that saw it and when, and the bytes of its fields
+/// that are not known, in the order in which they came.
 #[derive(Debug, Drop)]
 pub struct GetFlowsResponse {
     pub flow: Option<Flow>,
     pub node_name: Text,
     pub time: Option<Stamp>,
+    pub unknown: Seq<u8>,
 }
 
 impl Message for GetFlowsResponse {
@@ -27,7 +29,13 @@ impl Message for GetFlowsResponse {
     ghost spelled = { response_bytes };
 
     #[tactic(auto, unfolding(crate::specs::Faults::response_check))]
-    fn take(&mut self, alloc: Global, field: Field<'_>, end: usize) -> Result<(), DecodeFault> {
+    fn take(
+        &mut self,
+        alloc: Global,
+        field: Field<'_>,
+        raw: &[u8],
+        end: usize,
+    ) -> Result<(), DecodeFault> {
         match field {
             Field::Body { number: 1, body } => {
                 match merge_flow(alloc, self.flow.take(), body, end - body.len()) {
@@ -45,16 +53,17 @@ impl Message for GetFlowsResponse {
                     Err(fault) => return Err(fault),
                 }
             }
-            _ => {}
+            _ => return keep_unknown(&mut self.unknown, raw),
         }
         Ok(())
     }
 
-    #[tactic(auto, using(crate::proofs::Spellings::spelling_three), unfolding(crate::specs::Messages::response_bytes))]
+    #[tactic(auto, using(crate::proofs::Spellings::spelling_kept), unfolding(crate::specs::Messages::response_bytes))]
     fn put(&self, out: &mut Vec<u8>) -> Result<(), NoMemory> {
         put_optional(out, 1, &self.flow)?;
         put_text(out, 1000, self.node_name.as_str())?;
-        put_optional(out, 1001, &self.time)
+        put_optional(out, 1001, &self.time)?;
+        put_unknown(out, &self.unknown)
     }
 }
 
@@ -62,8 +71,9 @@ impl GetFlowsResponse {
     ghost use Rattle.hb_flow.specs.Faults.{Answers, response_fault};
     ghost use Rattle.hb_flow.specs.Messages.{read_response, ResponseFits};
 
-    /// Reads an answer (Protocol Buffers encoding guide). Of fields that are not known, or have
-    /// another wire type, nothing is kept. The bytes are gone through once, and each text is copied.
+    /// Reads an answer (Protocol Buffers encoding guide). A field with another wire type than its
+    /// number's is not known. The bytes are gone through once; texts and the fields that are not
+    /// known are copied.
     ///
     /// Malformed where no field starts: at a group (wire types 3 and 4), at number 0, and at a field
     /// that does not end within its message. BadUtf8 at the first byte of a text.
@@ -72,23 +82,24 @@ impl GetFlowsResponse {
             (λ r. r ≡ read_response bytes.now) }
         ensures fits { IfOk result ResponseFits }
     {
+        let Ok(unknown) = Seq::new(alloc) else {
+            return Err(DecodeFault::NoMemory);
+        };
         let mut response = GetFlowsResponse {
             flow: None,
             node_name: Text::empty(alloc),
             time: None,
+            unknown,
         };
         match merge(alloc, &mut response, bytes, 0) {
-            Ok(()) => {
-                response.known();
-                Ok(response)
-            }
+            Ok(()) => Ok(response),
             Err(fault) => Err(fault),
         }
     }
 
-    /// Appends the canonical spelling: fields by ascending number, with no defaults. The bytes of
-    /// each message in it are moved once, when their length is put before them. At `Err` nothing is
-    /// appended.
+    /// Appends the canonical spelling: fields by ascending number, with no defaults, and after them
+    /// the bytes of those that are not known. The bytes of each message in it are moved once, when
+    /// their length is put before them. At `Err` nothing is appended.
     pub fn write(&self, out: &mut Vec<u8>) -> Result<(), NoMemory>
         ensures ok { OnOk result (out.new.items ≡ out.old.items ++ response_bytes self.now) }
         ensures err { OnErr result (out.new.items ≡ out.old.items) }
@@ -101,18 +112,5 @@ impl GetFlowsResponse {
                 Err(fault)
             }
         }
-    }
-
-    /// What the types of its fields say: it has a spelling.
-    fn known(&self)
-        ensures { ResponseFits self.now }
-    {
-        if let Some(flow) = &self.flow {
-            flow.known();
-        }
-        if let Some(time) = &self.time {
-            time.known();
-        }
-        let _name = self.node_name.as_str();
     }
 }

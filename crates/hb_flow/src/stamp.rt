@@ -24,7 +24,13 @@ impl Message for Stamp {
 
     ghost spelled = { stamp_bytes };
 
-    fn take(&mut self, _alloc: Global, field: Field<'_>, _end: usize) -> Result<(), DecodeFault> {
+    fn take(
+        &mut self,
+        _alloc: Global,
+        field: Field<'_>,
+        _raw: &[u8],
+        _end: usize,
+    ) -> Result<(), DecodeFault> {
         match field {
             Field::Varint { number: 1, value } => self.secs = int64(value),
             Field::Varint { number: 2, value } => self.nanos = int32(value),
@@ -37,17 +43,5 @@ impl Message for Stamp {
     fn put(&self, out: &mut Vec<u8>) -> Result<(), NoMemory> {
         put_number(out, 1, of_signed(self.secs))?;
         put_number(out, 2, of_signed(i64::from(self.nanos)))
-    }
-}
-
-impl Stamp {
-    ghost use Rattle.hb_flow.specs.Messages.{StampFits};
-
-    /// What the types of its fields say: it has a spelling.
-    pub(crate) fn known(&self)
-        ensures { StampFits self.now }
-    {
-        let _secs = self.secs;
-        let _nanos = self.nanos;
     }
 }

@@ -1,17 +1,18 @@
 //! Rows of bytes worked out by hand from the Protocol Buffers encoding guide.
 
 use super::*;
-use hb_wire::Text;
+use hb_wire::{Seq, Text};
 use std::alloc::Global;
 use std::process::Abort;
 use std::test::*;
 
-// A flow's time, verdict and uuid; an answer's flow, node name and time.
-type FlowRow<'a> = (Option<Stamp>, i32, &'a str);
+// A flow's time, verdict, uuid and bytes that are not known; an answer's flow, node name, time and
+// bytes that are not known.
+type FlowRow<'a> = (Option<Stamp>, i32, &'a str, &'a [u8]);
 
-type Row<'a> = (Option<FlowRow<'a>>, &'a str, Option<Stamp>);
+type Row<'a> = (Option<FlowRow<'a>>, &'a str, Option<Stamp>, &'a [u8]);
 
-const NOTHING: Row<'static> = (None, "", None);
+const NOTHING: Row<'static> = (None, "", None, &[]);
 
 // Its fields end at 14, 18 and 23.
 const WHOLE: [u8; 23] = [
@@ -19,48 +20,79 @@ const WHOLE: [u8; 23] = [
     0xca, 0x3e, 2, 0x08, 3,
 ];
 
+const WHOLE_ROW: Row<'static> = (
+    Some((Some(Stamp { secs: 1, nanos: 2 }), 1, "a", &[])),
+    "n",
+    Some(Stamp { secs: 3, nanos: 0 }),
+    &[],
+);
+
 fn stamp(secs: i64, nanos: i32) -> Option<Stamp> {
     Some(Stamp { secs, nanos })
 }
 
 fn flow(time: Option<Stamp>, verdict: i32, uuid: &str) -> Row<'_> {
-    (Some((time, verdict, uuid)), "", None)
+    (Some((time, verdict, uuid, &[])), "", None, &[])
+}
+
+fn flow_beside(time: Option<Stamp>, verdict: i32, unknown: &[u8]) -> Row<'_> {
+    (Some((time, verdict, "", unknown)), "", None, &[])
 }
 
 fn time(secs: i64, nanos: i32) -> Row<'static> {
-    (None, "", stamp(secs, nanos))
+    (None, "", stamp(secs, nanos), &[])
+}
+
+fn time_beside(secs: i64, nanos: i32, unknown: &[u8]) -> Row<'_> {
+    (None, "", stamp(secs, nanos), unknown)
+}
+
+fn only(unknown: &[u8]) -> Row<'_> {
+    (None, "", None, unknown)
 }
 
 fn flow_row(flow: &Flow) -> FlowRow<'_> {
-    (flow.time, flow.verdict, flow.uuid.as_str())
+    let unknown = flow.unknown.as_slice();
+    (flow.time, flow.verdict, flow.uuid.as_str(), unknown)
 }
 
 fn row_of(response: &GetFlowsResponse) -> Row<'_> {
     let flow = response.flow.as_ref().map(flow_row);
-    (flow, response.node_name.as_str(), response.time)
+    let unknown = response.unknown.as_slice();
+    (flow, response.node_name.as_str(), response.time, unknown)
+}
+
+fn kept(alloc: Global, bytes: &[u8]) -> Result<Seq<u8>, Fail> {
+    let mut unknown = Seq::new(alloc)?;
+    unknown.extend_from_slice(bytes)?;
+    Ok(unknown)
 }
 
 fn flow_of(alloc: Global, row: FlowRow<'_>) -> Result<Flow, Fail> {
-    let (time, verdict, uuid) = row;
+    let (time, verdict, uuid, unknown) = row;
     let uuid = Text::of(alloc, uuid)?;
+    let unknown = kept(alloc, unknown)?;
     Ok(Flow {
         time,
         verdict,
         uuid,
+        unknown,
     })
 }
 
 fn response_of(alloc: Global, row: Row<'_>) -> Result<GetFlowsResponse, Fail> {
-    let (flow, node_name, time) = row;
+    let (flow, node_name, time, unknown) = row;
     let flow = match flow {
         None => None,
         Some(flow) => Some(flow_of(alloc, flow)?),
     };
     let node_name = Text::of(alloc, node_name)?;
+    let unknown = kept(alloc, unknown)?;
     Ok(GetFlowsResponse {
         flow,
         node_name,
         time,
+        unknown,
     })
 }
 
@@ -80,7 +112,6 @@ fn fault_in(alloc: Global, bytes: &[u8]) -> Option<DecodeFault> {
 
 #[test]
 fn any_order_the_last_and_merged(rt: HostRuntime) -> Result<(), Fail> {
-    let whole = (Some((stamp(1, 2), 1, "a")), "n", stamp(3, 0));
     let turned = [
         0xca, 0x3e, 2, 0x08, 3, 0xc2, 0x3e, 1, b'n', 0x0a, 0x0c, 0x92, 0x02, 1, b'a', 0x10, 1,
         0x0a, 4, 0x10, 2, 0x08, 1,
@@ -90,15 +121,15 @@ fn any_order_the_last_and_merged(rt: HostRuntime) -> Result<(), Fail> {
         rt.alloc(),
         &[
             (&[], NOTHING),
-            (&WHOLE, whole),
-            (&turned, whole),
+            (&WHOLE, WHOLE_ROW),
+            (&turned, WHOLE_ROW),
             // There, and empty.
             (&[0x0a, 0], flow(None, 0, "")),
             (&[0x0a, 2, 0x0a, 0], flow(stamp(0, 0), 0, "")),
             (&[0xca, 0x3e, 0], time(0, 0)),
             // The last one counts.
             (&[0x0a, 4, 0x10, 1, 0x10, 2], flow(None, 2, "")),
-            (b"\xc2\x3e\x01a\xc2\x3e\x01b", (None, "b", None)),
+            (b"\xc2\x3e\x01a\xc2\x3e\x01b", (None, "b", None, &[])),
             (b"\x0a\x07\x92\x02\x01a\x92\x02\x00", flow(None, 0, "")),
             // Messages in two fields are one.
             (b"\x0a\x02\x10\x01\x0a\x04\x92\x02\x01a", flow(None, 1, "a")),
@@ -152,32 +183,102 @@ fn numbers_of_any_spelling(rt: HostRuntime) -> Result<(), Fail> {
 }
 
 #[test]
-fn what_is_not_known_is_passed_over(rt: HostRuntime) -> Result<(), Fail> {
+fn what_is_not_known_is_kept(rt: HostRuntime) -> Result<(), Fail> {
     all_read(
         &rt,
         rt.alloc(),
         &[
-            // Field 3 of each wire type, and the greatest number.
-            (&[0x18, 7, 0xca, 0x3e, 0], time(0, 0)),
-            (&[0x19, 0, 0, 0, 0, 0, 0, 0, 0, 0xca, 0x3e, 0], time(0, 0)),
-            (&[0x1a, 2, 0x0b, 0xff, 0xca, 0x3e, 0], time(0, 0)),
-            (&[0x1d, 0, 0, 0, 0, 0xca, 0x3e, 0], time(0, 0)),
-            (&[0xfa, 0xff, 0xff, 0xff, 0x0f, 0], NOTHING),
-            // Known numbers, with a wire type that is not theirs.
-            (&[0x08, 5], NOTHING),
-            (&[0xc0, 0x3e, 1], NOTHING),
-            (&[0xc1, 0x3e, 0, 0, 0, 0, 0, 0, 0, 0], NOTHING),
-            (&[0xcd, 0x3e, 0, 0, 0, 0], NOTHING),
-            // Verdict 1, and then time, verdict and uuid with others.
+            // Number 3 of each wire type, before a time, behind it and around it.
+            (&[0x18, 7, 0xca, 0x3e, 0], time_beside(0, 0, &[0x18, 7])),
             (
-                &[0x0a, 10, 0x10, 1, 0x08, 5, 0x12, 1, b'a', 0x90, 0x02, 7],
-                flow(None, 1, ""),
+                &[0x19, 1, 2, 3, 4, 5, 6, 7, 8, 0xca, 0x3e, 0],
+                time_beside(0, 0, &[0x19, 1, 2, 3, 4, 5, 6, 7, 8]),
             ),
-            (&[0x0a, 7, 0x10, 1, 0x15, 9, 9, 9, 9], flow(None, 1, "")),
-            // Second 1, and then seconds and nanoseconds with others.
+            (
+                &[0xca, 0x3e, 0, 0x1a, 2, 0x0b, 0xff],
+                time_beside(0, 0, &[0x1a, 2, 0x0b, 0xff]),
+            ),
+            (
+                &[0x1d, 9, 8, 7, 6, 0xca, 0x3e, 0, 0x18, 7],
+                time_beside(0, 0, &[0x1d, 9, 8, 7, 6, 0x18, 7]),
+            ),
+            // The greatest number, and a tag and a number that are longer than needed.
+            (
+                &[0xfa, 0xff, 0xff, 0xff, 0x0f, 0],
+                only(&[0xfa, 0xff, 0xff, 0xff, 0x0f, 0]),
+            ),
+            (
+                &[0x98, 0x00, 0x87, 0x80, 0x00],
+                only(&[0x98, 0x00, 0x87, 0x80, 0x00]),
+            ),
+            // Known numbers, with a wire type that is not theirs.
+            (&[0x08, 5], only(&[0x08, 5])),
+            (&[0xc0, 0x3e, 1], only(&[0xc0, 0x3e, 1])),
+            (
+                &[0xcd, 0x3e, 0, 0, 0, 0, 0x08, 5],
+                only(&[0xcd, 0x3e, 0, 0, 0, 0, 0x08, 5]),
+            ),
+        ],
+    )
+}
+
+#[test]
+fn a_flow_keeps_what_is_not_known(rt: HostRuntime) -> Result<(), Fail> {
+    all_read(
+        &rt,
+        rt.alloc(),
+        &[
+            // Verdict 1, and time, verdict and uuid with a wire type that is not theirs.
+            (
+                &[0x0a, 10, 0x08, 5, 0x12, 1, b'a', 0x10, 1, 0x90, 0x02, 7],
+                flow_beside(None, 1, &[0x08, 5, 0x12, 1, b'a', 0x90, 0x02, 7]),
+            ),
+            (
+                &[0x0a, 7, 0x10, 1, 0x15, 9, 9, 9, 9],
+                flow_beside(None, 1, &[0x15, 9, 9, 9, 9]),
+            ),
+            // An answer's number is none of a flow, and its body is no text.
+            (
+                &[0x0a, 6, 0xc2, 0x3e, 1, 0xff, 0x10, 1],
+                flow_beside(None, 1, &[0xc2, 0x3e, 1, 0xff]),
+            ),
+            // Two flows are one, and the answer keeps its own.
+            (
+                &[0x0a, 2, 0x38, 1, 0x18, 7, 0x0a, 4, 0x38, 2, 0x10, 1],
+                (
+                    Some((None, 1, "", &[0x38, 1, 0x38, 2])),
+                    "",
+                    None,
+                    &[0x18, 7],
+                ),
+            ),
+        ],
+    )
+}
+
+#[test]
+fn a_moment_keeps_nothing(rt: HostRuntime) -> Result<(), Fail> {
+    all_read(
+        &rt,
+        rt.alloc(),
+        &[
+            // Number 3 of each wire type, around second 1.
+            (
+                &[
+                    0xca, 0x3e, 22, 0x18, 7, 0x19, 1, 2, 3, 4, 5, 6, 7, 8, 0x08, 1, 0x1a, 2, 0x0b,
+                    0xff, 0x1d, 1, 2, 3, 4,
+                ],
+                time(1, 0),
+            ),
+            // Seconds and nanoseconds with a wire type that is not theirs.
             (
                 &[0xca, 0x3e, 9, 0x08, 1, 0x0a, 0, 0x15, 9, 9, 9, 9],
                 time(1, 0),
+            ),
+            // In a flow.
+            (
+                &[0x0a, 8, 0x0a, 6, 0x1a, 0, 0x08, 1, 0x18, 7],
+                flow(stamp(1, 0), 0, ""),
             ),
         ],
     )
@@ -197,9 +298,9 @@ fn every_cut_of_one_answer(rt: HostRuntime) {
 }
 
 #[test]
-fn faults_have_their_places(rt: HostRuntime) {
-    use crate::fault::DecodeFault::{BadUtf8, Malformed};
-    let cases: [(&[u8], DecodeFault); 17] = [
+fn no_field_starts_at_its_place(rt: HostRuntime) {
+    use crate::fault::DecodeFault::Malformed;
+    let cases: [(&[u8], DecodeFault); 11] = [
         // A group begins and ends.
         (&[0x18, 7, 0x0b, 0x0c], Malformed { at: 2 }),
         (&[0x18, 7, 0x0c], Malformed { at: 2 }),
@@ -219,6 +320,19 @@ fn faults_have_their_places(rt: HostRuntime) {
         ),
         // The two halves of a field are not joined.
         (&[0x0a, 1, 0x10, 0x0a, 1, 0x01], Malformed { at: 2 }),
+        // In a flow beside what is kept: a wire type of 6, and a body past the end.
+        (&[0x0a, 4, 0x38, 5, 0x3e, 0], Malformed { at: 4 }),
+        (&[0x0a, 4, 0x38, 5, 0x3a, 1], Malformed { at: 4 }),
+    ];
+    for (bytes, want) in &cases {
+        assert_eq!(rt; fault_in(rt.alloc(), bytes), Some(*want), "at {bytes:?}");
+    }
+}
+
+#[test]
+fn a_text_that_is_not_utf8_has_its_place(rt: HostRuntime) {
+    use crate::fault::DecodeFault::{BadUtf8, Malformed};
+    let cases: [(&[u8], DecodeFault); 8] = [
         // Not UTF-8: a lone byte after letters, a surrogate, a slash in two bytes, a cut letter.
         (b"\x0a\x08\x10\x01\x92\x02\x03ab\xff", BadUtf8 { at: 7 }),
         (b"\xc2\x3e\x03\xed\xa0\x80", BadUtf8 { at: 3 }),
@@ -246,17 +360,19 @@ fn answers_are_written(rt: HostRuntime) -> Result<(), Fail> {
         0x16, 0x08, 0xff, 0xff, 0xff, 0xff, 0xff, 0xff, 0xff, 0xff, 0xff, 0x01, 0x10, 0xff, 0xff,
         0xff, 0xff, 0xff, 0xff, 0xff, 0xff, 0xff, 0x01,
     ];
-    let whole = (Some((stamp(1, 2), 1, "a")), "n", stamp(3, 0));
     let cases: [(Row<'_>, &[u8]); 6] = [
         (NOTHING, &[]),
         (flow(None, 0, ""), &[0x0a, 0]),
         (flow(stamp(0, 0), 0, ""), &[0x0a, 2, 0x0a, 0]),
         (
-            (None, "n", stamp(0, 0)),
+            (None, "n", stamp(0, 0), &[]),
             &[0xc2, 0x3e, 1, b'n', 0xca, 0x3e, 0],
         ),
-        (whole, &WHOLE),
-        ((Some((None, -1, "")), "", stamp(-1, -1)), &negatives),
+        (WHOLE_ROW, &WHOLE),
+        (
+            (Some((None, -1, "", &[])), "", stamp(-1, -1), &[]),
+            &negatives,
+        ),
     ];
     for (row, want) in &cases {
         let response = response_of(rt.alloc(), *row)?;
@@ -271,11 +387,68 @@ fn answers_are_written(rt: HostRuntime) -> Result<(), Fail> {
     Ok(())
 }
 
+// Messages, and how they are written anew.
+const ANEW: [(&[u8], &[u8]); 7] = [
+    // The answer's own behind its time, the flow's behind its uuid.
+    (
+        &[0x18, 7, 0xca, 0x3e, 0, 0xc2, 0x3e, 1, b'n'],
+        &[0xc2, 0x3e, 1, b'n', 0xca, 0x3e, 0, 0x18, 7],
+    ),
+    (
+        &[0x0a, 8, 0x38, 5, 0x92, 0x02, 1, b'a', 0x10, 2],
+        &[0x0a, 8, 0x10, 2, 0x92, 0x02, 1, b'a', 0x38, 5],
+    ),
+    // A known number with another wire type is not put in its place.
+    (&[0x08, 5, 0x0a, 0], &[0x0a, 0, 0x08, 5]),
+    // In the order in which they came, and as they were spelled.
+    (
+        &[0x98, 0x00, 0x87, 0x00, 0x10, 1, 0x0a, 2, 0x10, 1],
+        &[0x0a, 2, 0x10, 1, 0x98, 0x00, 0x87, 0x00, 0x10, 1],
+    ),
+    // Two flows, each with one, and the answer's own between them.
+    (
+        &[0x0a, 2, 0x38, 1, 0x18, 7, 0x0a, 4, 0x38, 2, 0x10, 1],
+        &[0x0a, 6, 0x10, 1, 0x38, 1, 0x38, 2, 0x18, 7],
+    ),
+    // What a moment does not know is gone.
+    (
+        &[0x0a, 6, 0x0a, 4, 0x18, 7, 0x08, 1],
+        &[0x0a, 4, 0x0a, 2, 0x08, 1],
+    ),
+    // Longer than needed, and defaults.
+    (
+        &[
+            0x8a, 0x00, 0x85, 0x00, 0x90, 0x00, 0x81, 0x80, 0x00, 0xc2, 0x3e, 0,
+        ],
+        &[0x0a, 2, 0x10, 1],
+    ),
+];
+
+#[test]
+fn what_was_written_is_read_again(rt: HostRuntime) -> Result<(), Fail> {
+    for (bytes, want) in &ANEW {
+        let first = GetFlowsResponse::read(rt.alloc(), bytes)
+            .ok()
+            .ok_or("a message")?;
+        let mut out = Vec::new(rt.alloc());
+        first.write(&mut out)?;
+        assert_eq!(rt; out.as_slice(), *want, "at {bytes:?}");
+        let second = GetFlowsResponse::read(rt.alloc(), want)
+            .ok()
+            .ok_or("what was written")?;
+        assert_eq!(rt; row_of(&second), row_of(&first), "at {bytes:?}");
+        out.clear();
+        second.write(&mut out)?;
+        assert_eq!(rt; out.as_slice(), *want, "at {bytes:?}");
+    }
+    Ok(())
+}
+
 #[test]
 fn a_length_of_two_bytes(rt: HostRuntime) -> Result<(), Fail> {
     let letters = [b'a'; 128];
     let uuid = str::from_utf8(&letters).ok().ok_or("a text")?;
-    let response = response_of(rt.alloc(), (Some((None, 0, uuid)), "", None))?;
+    let response = response_of(rt.alloc(), flow(None, 0, uuid))?;
     let mut out = Vec::new(rt.alloc());
     response.write(&mut out)?;
     let mut want = Vec::new(rt.alloc());
@@ -287,7 +460,7 @@ fn a_length_of_two_bytes(rt: HostRuntime) -> Result<(), Fail> {
 
 #[test]
 fn records_of_flows(rt: HostRuntime) -> Result<(), Fail> {
-    let row = (stamp(1, 0), 1, "0");
+    let row: FlowRow<'_> = (stamp(1, 0), 1, "0", &[]);
     let flow = flow_of(rt.alloc(), row)?;
     let mut record = Vec::new(rt.alloc());
     record_of(&flow, &mut record)?;
@@ -300,7 +473,7 @@ fn records_of_flows(rt: HostRuntime) -> Result<(), Fail> {
         // Other events are not known.
         (&[0x12, 0x00], Ok(None)),
         (&[], Ok(None)),
-        (&[0x0a, 0x00], Ok(Some((None, 0, "")))),
+        (&[0x0a, 0x00], Ok(Some((None, 0, "", &[])))),
         (&want[..11], Err(DecodeFault::Malformed { at: 0 })),
     ];
     for (bytes, want) in &cases {
@@ -309,6 +482,27 @@ fn records_of_flows(rt: HostRuntime) -> Result<(), Fail> {
             Ok(flow) => assert_eq!(rt; Ok(flow.as_ref().map(flow_row)), *want, "at {bytes:?}"),
             Err(fault) => assert_eq!(rt; Err(*fault), *want, "at {bytes:?}"),
         }
+    }
+    Ok(())
+}
+
+#[test]
+fn records_keep_what_is_not_known(rt: HostRuntime) -> Result<(), Fail> {
+    let cases: [(FlowRow<'_>, &[u8]); 2] = [
+        ((None, 0, "", &[0x38, 5]), &[0x0a, 2, 0x38, 5]),
+        (
+            (stamp(1, 0), 2, "a", &[0x38, 5, 0x1a, 1, 0xff]),
+            &[
+                0x0a, 15, 0x0a, 2, 0x08, 1, 0x10, 2, 0x92, 0x02, 1, b'a', 0x38, 5, 0x1a, 1, 0xff,
+            ],
+        ),
+    ];
+    for (row, want) in &cases {
+        let mut record = Vec::new(rt.alloc());
+        record_of(&flow_of(rt.alloc(), *row)?, &mut record)?;
+        assert_eq!(rt; record.as_slice(), *want, "at {row:?}");
+        let found = event_of(rt.alloc(), want).ok().ok_or("a record")?;
+        assert_eq!(rt; found.as_ref().map(flow_row), Some(*row), "at {row:?}");
     }
     Ok(())
 }

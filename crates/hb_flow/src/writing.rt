@@ -7,7 +7,7 @@ ghost use Rattle.hb_wire.specs.Varint.{varint};
 ghost use Rattle.hb_flow.specs.Messages.{number_field, text_field, message_field};
 
 use crate::message::Message;
-use hb_wire::{NoMemory, write_body, write_number, write_tag, write_varint};
+use hb_wire::{NoMemory, Seq, write_body, write_number, write_tag, write_varint};
 
 /// The wire type of a field with a body.
 const BODY: u8 = 2;
@@ -36,6 +36,15 @@ pub(crate) fn put_text(out: &mut Vec<u8>, number: u32, text: &str) -> Result<(),
         return Ok(());
     }
     write_body(out, number, text.as_bytes())
+}
+
+/// The bytes of the fields that are not known.
+pub(crate) fn put_unknown(out: &mut Vec<u8>, unknown: &Seq<u8>) -> Result<(), NoMemory>
+    ensures ok { OnOk result (out.new.items ≡ out.old.items ++ unknown.now) }
+    ensures front { take (length out.old.items) out.new.items ≡ out.old.items }
+{
+    out.extend_from_slice(unknown.as_slice())?;
+    Ok(())
 }
 
 /// A message, where there is one.

@@ -47,3 +47,14 @@ impl<T: Drop> Seq<T> {
         self.vec.as_slice()
     }
 }
+
+impl<T: Copy> Seq<T> {
+    /// Puts copies of the items at the end.
+    pub fn extend_from_slice(&mut self, items: &[T]) -> Result<(), NoMemory>
+        ensures ok { OnOk result (self.new ≡ self.old ++ items.now) }
+        ensures err { OnErr result (self.new ≡ self.old) }
+    {
+        self.vec.extend_from_slice(items)?;
+        Ok(())
+    }
+}

@@ -154,3 +154,17 @@ fn texts_and_items_are_kept(rt: HostRuntime) -> Result<(), Fail> {
     assert_eq!(rt; letters.as_str(), "flownode");
     Ok(())
 }
+
+#[test]
+fn copies_are_put_at_the_end(rt: HostRuntime) -> Result<(), Fail> {
+    let mut bytes = Seq::new(rt.alloc())?;
+    bytes.extend_from_slice(&[])?;
+    assert!(rt; bytes.as_slice().is_empty());
+    bytes.extend_from_slice(&[0x38, 0x05])?;
+    bytes.push(0x18)?;
+    bytes.extend_from_slice(&[])?;
+    bytes.extend_from_slice(&[0x07, 0x00])?;
+    let want = [0x38, 0x05, 0x18, 0x07, 0x00];
+    assert_eq!(rt; bytes.as_slice(), want.as_slice());
+    Ok(())
+}

@@ -1,12 +1,16 @@
 -- Bytes are cut into frames in one way.
-use Rattle.std.proofs.Common.{◌≡◌, ℕ, ◌<◌, ◌^◌, List, [], ◌∷◌, ◌++◌, length, take, drop, get_or, append_assoc, refl, sym, ap, ◌∙◌, arith}
+use Rattle.std.proofs.Common.{◌≡◌, ◌⊎◌, inl, inr, ℕ, ◌<◌, ◌≤◌, ◌^◌, List, [], ◌∷◌, ◌++◌, length, take, drop, get_or, append_assoc, refl, sym, ap, ◌∙◌, arith, length-append}
 use Rattle.std.specs.Int.{w32, to_be_bytes, from_be_bytes}
 use Rattle.std.specs.List.{flat_map, AllByRecursion}
 use Rattle.std.proofs.Math.Seq.{take-append_seam, drop-append_seam}
-use Rattle.std.proofs.lemmas.List.{append-nil}
+use Rattle.std.proofs.lemmas.List.{append-nil, length-take, take-append-drop}
 use Rattle.std.proofs.lemmas.List.Concat.{flat_map-append}
-use Rattle.std.proofs.lemmas.Nat.{from_be_bytes-to_be_bytes_4}
-use Rattle.hubblet.specs.Frames.{Frame, IsFrame, frame_bytes, StartsFrame, StartsNoFrame, IsCut}
+use Rattle.std.proofs.lemmas.Nat.{from_be_bytes-to_be_bytes_4, be_bytes_4}
+use Rattle.std.proofs.lemmas.Bool.{cases_lt}
+use Rattle.hb_wire.specs.Varint.{AreBytes}
+use Rattle.hb_wire.proofs.FieldLemmas.{AreBytes_drop, AreBytes_take}
+use Rattle.hb_flow.proofs.Pieces.{all_append}
+use Rattle.hubblet.specs.Frames.{Frame, IsFrame, frame_bytes, StartsFrame, StartsNoFrame, StartsFrames, IsCut}
 
 length_once : (m n : ℕ) → m < 2 ^ 32 → n < 2 ^ 32 → to_be_bytes w32 m ≡ to_be_bytes w32 n → m ≡ n
 length_once m n p q e = sym (from_be_bytes-to_be_bytes_4 m p) ∙ ap (from_be_bytes w32) e ∙ from_be_bytes-to_be_bytes_4 n q
@@ -33,59 +37,114 @@ frame_once f g x y p q e =
     (same_frame f g (ap (take 1) head) bodies.0, bodies.1)
 
 -- one frame and others, as bytes
-frames_after : (f : Frame) (fs : List Frame) (x : List ℕ) → flat_map frame_bytes (f ∷ fs) ++ x ≡ frame_bytes f ++ (flat_map frame_bytes fs ++ x)
+pub frames_after : (f : Frame) (fs : List Frame) (x : List ℕ) → flat_map frame_bytes (f ∷ fs) ++ x ≡ frame_bytes f ++ (flat_map frame_bytes fs ++ x)
 frames_after f fs x = append_assoc (frame_bytes f) (flat_map frame_bytes fs) x
 
--- Frames that begin bytes are the first ones of the cut, and what comes after them is cut into the others.
-pub record Others (fs gs : List Frame) (x y : List ℕ) : Type 0 where
-  pub frames : List Frame
-  pub all : gs ≡ fs ++ frames
-  pub cut : IsCut x frames y
+-- Lists of frames that begin the same bytes are one, where each frame has a property and no frame that has it begins what comes after them.
+module _ (P : Frame → Type 0) where
+  abbrev pub Stops : List ℕ → Type 0
+  Stops rest = (f : Frame) (after : List ℕ) → StartsFrame rest f after → P f → ⊥
 
-pub others_of : (fs gs : List Frame) (x y : List ℕ) → AllByRecursion IsFrame fs → AllByRecursion IsFrame gs → flat_map frame_bytes fs ++ x ≡ flat_map frame_bytes gs ++ y
-    → StartsNoFrame y → Others fs gs x y
-others_of [] gs x y p q e none = record { frames = gs; all = refl; cut = record { whole = e; fit = q; longest = none } }
-others_of (f ∷ fs) [] x y p q e none =
-    absurd (none f (flat_map frame_bytes fs ++ x) (record { fits = p.0; whole = sym e ∙ frames_after f fs x }))
-others_of (f ∷ fs) (g ∷ gs) x y p q e none =
-    let first = frame_once f g (flat_map frame_bytes fs ++ x) (flat_map frame_bytes gs ++ y) p.0 q.0 (sym (frames_after f fs x) ∙ e ∙ frames_after g gs y) in
-    let others = others_of fs gs x y p.1 q.1 first.1 none in
-    record {
-      frames = others.frames;
-      all = ap (λ (h : Frame). h ∷ gs) (sym first.0) ∙ ap (λ (hs : List Frame). f ∷ hs) others.all;
-      cut = others.cut;
-    }
+  pub same_front : (fs gs : List Frame) (x y : List ℕ) → AllByRecursion IsFrame fs → AllByRecursion IsFrame gs → AllByRecursion P fs → AllByRecursion P gs
+      → flat_map frame_bytes fs ++ x ≡ flat_map frame_bytes gs ++ y → Stops x → Stops y → (fs ≡ gs) × (x ≡ y)
+  same_front [] [] x y p q all all' e none none' = (refl, e)
+  same_front [] (g ∷ gs) x y p q all all' e none none' =
+      absurd (none g (flat_map frame_bytes gs ++ y) (record { fits = q.0; whole = e ∙ frames_after g gs y }) all'.0)
+  same_front (f ∷ fs) [] x y p q all all' e none none' =
+      absurd (none' f (flat_map frame_bytes fs ++ x) (record { fits = p.0; whole = sym e ∙ frames_after f fs x }) all.0)
+  same_front (f ∷ fs) (g ∷ gs) x y p q all all' e none none' =
+      let first = frame_once f g (flat_map frame_bytes fs ++ x) (flat_map frame_bytes gs ++ y) p.0 q.0 (sym (frames_after f fs x) ∙ e ∙ frames_after g gs y) in
+      let others = same_front fs gs x y p.1 q.1 all.1 all'.1 first.1 none none' in
+      (ap (λ (h : Frame). h ∷ fs) first.0 ∙ ap (λ (hs : List Frame). g ∷ hs) others.0, others.1)
 
--- what starts with no frame is cut into none
-none_cut : (x y : List ℕ) (frames : List Frame) → StartsNoFrame x → IsCut x frames y → (frames ≡ []) × (x ≡ y)
-none_cut x y [] none cut = (refl, cut.whole)
-none_cut x y (f ∷ fs) none cut = absurd (none f (flat_map frame_bytes fs ++ y) (record { fits = cut.fit.0; whole = cut.whole ∙ frames_after f fs y }))
-
--- what starts with a frame is cut into it and others
-pub cut_first : (x y after : List ℕ) (f : Frame) (frames : List Frame) → StartsFrame x f after → IsCut x frames y → (more : List Frame) × (frames ≡ f ∷ more)
-cut_first x y after f [] starts cut = absurd (cut.longest f after (record { fits = starts.fits; whole = sym cut.whole ∙ starts.whole }))
-cut_first x y after f (g ∷ gs) starts cut =
-    let same = frame_once g f (flat_map frame_bytes gs ++ y) after cut.fit.0 starts.fits (sym (frames_after g gs y) ∙ sym cut.whole ∙ starts.whole) in
-    (gs, ap (λ (h : Frame). h ∷ gs) same.0)
+-- one frame begins bytes
+pub first_once : (bytes x y : List ℕ) (f g : Frame) → StartsFrame bytes f x → StartsFrame bytes g y → (f ≡ g) × (x ≡ y)
+first_once bytes x y f g p q = frame_once f g x y p.fits q.fits (sym p.whole ∙ q.whole)
 
 -- frames that begin bytes, with the frame after them
-pub frames_with : (file rest after : List ℕ) (f : Frame) (fs : List Frame) → file ≡ flat_map frame_bytes fs ++ rest → StartsFrame rest f after
-    → file ≡ flat_map frame_bytes (fs ++ f ∷ []) ++ after
-frames_with file rest after f fs e starts =
+pub frames_with : (file rest after : List ℕ) (f : Frame) (fs : List Frame) → StartsFrames file fs rest → StartsFrame rest f after → StartsFrames file (fs ++ f ∷ []) after
+frames_with file rest after f fs starts next =
     let one : flat_map frame_bytes (f ∷ []) ++ after ≡ frame_bytes f ++ after = ap (λ (bs : List ℕ). bs ++ after) (append-nil (frame_bytes f)) in
     let all : flat_map frame_bytes (fs ++ f ∷ []) ++ after ≡ flat_map frame_bytes fs ++ (frame_bytes f ++ after) =
     ap (λ (bs : List ℕ). bs ++ after) (flat_map-append frame_bytes fs (f ∷ []))
     ∙ append_assoc (flat_map frame_bytes fs) (flat_map frame_bytes (f ∷ [])) after
     ∙ ap (λ (bs : List ℕ). flat_map frame_bytes fs ++ bs) one in
-    e ∙ ap (λ (bs : List ℕ). flat_map frame_bytes fs ++ bs) starts.whole ∙ sym all
-
--- two cuts of the same bytes are one
-pub cut_once : (bytes : List ℕ) (fs gs : List Frame) (x y : List ℕ) → IsCut bytes fs x → IsCut bytes gs y → (fs ≡ gs) × (x ≡ y)
-cut_once bytes fs gs x y p q =
-    let others = others_of fs gs x y p.fit q.fit (sym p.whole ∙ q.whole) q.longest in
-    let none = none_cut x y others.frames p.longest others.cut in
-    (sym (others.all ∙ ap (λ (hs : List Frame). fs ++ hs) none.0 ∙ append-nil fs), none.1)
+    record {
+      fit = all_append IsFrame fs (f ∷ []) starts.fit (next.fits, tt);
+      whole = starts.whole ∙ ap (λ (bs : List ℕ). flat_map frame_bytes fs ++ bs) next.whole ∙ sym all;
+    }
 
 -- no frame begins no bytes
 pub nothing_starts : StartsNoFrame []
 nothing_starts f after starts = omega (arith, ap length starts.whole)
+
+-- two cuts of the same bytes are one
+any_frames : (fs : List Frame) → AllByRecursion (λ _. Unit {0}) fs
+any_frames [] = tt
+any_frames (f ∷ fs) = (tt, any_frames fs)
+
+pub cut_once : (bytes : List ℕ) (fs gs : List Frame) (x y : List ℕ) → IsCut bytes fs x → IsCut bytes gs y → (fs ≡ gs) × (x ≡ y)
+cut_once bytes fs gs x y p q =
+    same_front (λ _. Unit {0}) fs gs x y p.starts.fit q.starts.fit (any_frames fs) (any_frames gs) (sym p.starts.whole ∙ q.starts.whole)
+    (λ f after starts _. p.longest f after starts) (λ f after starts _. q.longest f after starts)
+
+-- ---- a frame begins bytes, or none does
+
+-- what begins bytes, where a frame does
+abbrev Begun : List ℕ → Type 0
+Begun bytes = (f : Frame) × (after : List ℕ) × StartsFrame bytes f after
+
+frame_long : (bytes after : List ℕ) (f : Frame) → StartsFrame bytes f after → 5 ≤ length bytes
+frame_long bytes after f starts = omega (arith, ap length starts.whole)
+
+-- the head of a frame, and what it says
+head_tells : (k a b c d : ℕ) (rest after : List ℕ) (f : Frame) → StartsFrame (k ∷ a ∷ b ∷ c ∷ d ∷ rest) f after
+    → (k ≤ 3) × (from_be_bytes w32 (a ∷ b ∷ c ∷ d ∷ []) ≤ 65536) × (from_be_bytes w32 (a ∷ b ∷ c ∷ d ∷ []) ≤ length rest)
+head_tells k a b c d rest after f starts =
+    let kind : k ∷ [] ≡ f.kind ∷ [] = ap (take 1) starts.whole in
+    let size : a ∷ b ∷ c ∷ d ∷ [] ≡ to_be_bytes w32 (length f.body) = ap (λ (bs : List ℕ). take 4 (drop 1 bs)) starts.whole in
+    let body : rest ≡ f.body ++ after = ap (drop 5) starts.whole in
+    let length_is : from_be_bytes w32 (a ∷ b ∷ c ∷ d ∷ []) ≡ length f.body = ap (from_be_bytes w32) size ∙ from_be_bytes-to_be_bytes_4 (length f.body) (omega (arith, starts.fits.short)) in
+    let kind_is : k ≡ f.kind = ap (λ (xs : List ℕ). get_or xs 0 0) kind in
+    (omega (arith, kind_is, starts.fits.known), omega (arith, length_is, starts.fits.short), omega (arith, length_is, ap length body, length-append f.body after))
+
+-- a head that says so begins a frame
+head_starts : (k a b c d : ℕ) (rest : List ℕ) → AreBytes (k ∷ a ∷ b ∷ c ∷ d ∷ rest) → k ≤ 3 → from_be_bytes w32 (a ∷ b ∷ c ∷ d ∷ []) ≤ 65536
+    → from_be_bytes w32 (a ∷ b ∷ c ∷ d ∷ []) ≤ length rest → Begun (k ∷ a ∷ b ∷ c ∷ d ∷ rest)
+head_starts k a b c d rest are known short long =
+    let n = from_be_bytes w32 (a ∷ b ∷ c ∷ d ∷ []) in
+    let size : length (take n rest) ≡ n = omega (arith, length-take n rest, long) in
+    let head : to_be_bytes w32 n ≡ a ∷ b ∷ c ∷ d ∷ [] = be_bytes_4 (a ∷ b ∷ c ∷ d ∷ []) n refl (AreBytes_take 4 (a ∷ b ∷ c ∷ d ∷ rest) (AreBytes_drop 1 (k ∷ a ∷ b ∷ c ∷ d ∷ rest) are)) refl in (
+      record { kind = k; body = take n rest },
+      drop n rest,
+      record {
+        fits = record { known = known; short = omega (arith, size, short) };
+        whole = ap (λ (xs : List ℕ). k ∷ a ∷ b ∷ c ∷ d ∷ xs) (sym (take-append-drop n rest)) ∙ ap (λ (hs : List ℕ). k ∷ hs ++ (take n rest ++ drop n rest)) (sym head)
+            ∙ ap (λ (m : ℕ). k ∷ to_be_bytes w32 m ++ (take n rest ++ drop n rest)) (sym size)
+            ∙ sym (append_assoc (k ∷ to_be_bytes w32 (length (take n rest))) (take n rest) (drop n rest));
+      },
+    )
+
+head_decides : (k a b c d : ℕ) (rest : List ℕ) → AreBytes (k ∷ a ∷ b ∷ c ∷ d ∷ rest) → Begun (k ∷ a ∷ b ∷ c ∷ d ∷ rest) ⊎ StartsNoFrame (k ∷ a ∷ b ∷ c ∷ d ∷ rest)
+head_decides k a b c d rest are =
+    let n = from_be_bytes w32 (a ∷ b ∷ c ∷ d ∷ []) in
+    elim (cases_lt 3 k) [
+      | inl high ↦ inr (λ f after starts. let told = head_tells k a b c d rest after f starts in omega (arith, told.0, high))
+      | inr known ↦
+          elim (cases_lt 65536 n) [
+            | inl high ↦ inr (λ f after starts. let told = head_tells k a b c d rest after f starts in omega (arith, told.1, high))
+            | inr short ↦
+                elim (cases_lt (length rest) n) [
+                  | inl high ↦ inr (λ f after starts. let told = head_tells k a b c d rest after f starts in omega (arith, told.2, high))
+                  | inr long ↦ inl (head_starts k a b c d rest are known short long)
+                ]
+          ]
+    ]
+
+pub starts_or_not : (bytes : List ℕ) → AreBytes bytes → Begun bytes ⊎ StartsNoFrame bytes
+starts_or_not [] are = inr (λ f after starts. omega (arith, frame_long _ after f starts))
+starts_or_not (k ∷ []) are = inr (λ f after starts. omega (arith, frame_long _ after f starts))
+starts_or_not (k ∷ a ∷ []) are = inr (λ f after starts. omega (arith, frame_long _ after f starts))
+starts_or_not (k ∷ a ∷ b ∷ []) are = inr (λ f after starts. omega (arith, frame_long _ after f starts))
+starts_or_not (k ∷ a ∷ b ∷ c ∷ []) are = inr (λ f after starts. omega (arith, frame_long _ after f starts))
+starts_or_not (k ∷ a ∷ b ∷ c ∷ d ∷ rest) are = head_decides k a b c d rest are

@@ -1,11 +1,14 @@
 pub mod Answered
+pub mod Canonical
 pub mod Completed
 pub mod Cuts
+pub mod Each
 pub mod FourWords
 pub mod Ingested
+pub mod OtherEvents
 pub mod Recorded
 pub mod Records
 pub mod Sizes
-pub mod Spelled
+pub mod Taken
 pub mod Whole
 pub mod Written

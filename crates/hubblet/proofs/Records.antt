@@ -1,21 +1,21 @@
 -- Records of flows: each is read as the flow that it is of, and the answer that hands it on fits a frame.
-use Rattle.std.proofs.Common.{◌≡◌, ℕ, zero, suc, ◌<◌, ◌^◌, List, [], ◌∷◌, length, map, Some, None, refl, sym, ap, subst, ◌∙◌, arith}
+use Rattle.std.proofs.Common.{◌≡◌, ℕ, zero, suc, List, [], ◌∷◌, map, Some, None, refl, sym, ap, subst, ◌∙◌, arith}
 use Rattle.std.specs.Prelude.{slice_get}
 use Rattle.std.specs.List.{AllByRecursion}
 use Rattle.std.proofs.lemmas.Str.{IsUtf8-nil}
-use Rattle.hb_flow.specs.Messages.{record_bytes, response_bytes, read_response, ResponseFits}
+use Rattle.hb_flow.specs.Messages.{record_bytes, read_response, ResponseFits, response_row}
 use Rattle.hb_flow.specs.Faults.{response_fault}
-use Rattle.hb_flow.proofs.Again.{response_again, response_clean}
+use Rattle.hb_flow.proofs.Again.{nothing_kept, response_again, response_clean}
 use Rattle.hb_flow.specs.declared.fault.DecodeFault.{DecodeFault}
 use Rattle.hb_flow.specs.declared.flow.Flow.{Flow}
 use Rattle.hb_flow.specs.declared.response.GetFlowsResponse.{GetFlowsResponse}
 use Rattle.hubblet.specs.Ingest.{IsKept}
 
 abbrev alone : Flow → GetFlowsResponse
-alone f = record { flow = Some f; node_name = []; time = None }
+alone f = record { flow = Some f; node_name = []; time = None; unknown = [] }
 
 alone_fits : (f : Flow) → IsKept f → ResponseFits (alone f)
-alone_fits f kept = record { flow = kept.fits; node_name = IsUtf8-nil; time = tt }
+alone_fits f kept = record { flow = kept.fits; node_name = IsUtf8-nil; time = tt; unknown = nothing_kept response_row }
 
 -- a record has no fault
 pub record_clean : (f : Flow) → IsKept f → response_fault (record_bytes f) ≡ None
@@ -53,10 +53,3 @@ none_is_not_kept bytes f kept e is =
 -- no fault is told of a record
 pub record_unfaulty : (bytes : List ℕ) (f : Flow) (fault : DecodeFault) → IsKept f → bytes ≡ record_bytes f → response_fault bytes ≡ Some fault → ⊥
 record_unfaulty bytes f fault kept e told = let clean = ap response_fault e ∙ record_clean f kept in cc
-
--- what spells an answer has no fault and reads as it
-pub spelling_clean : (body : List ℕ) (r : GetFlowsResponse) → ResponseFits r → length body < 2 ^ 64 → body ≡ response_bytes r → response_fault body ≡ None
-spelling_clean body r fits short e = ap response_fault e ∙ response_clean r fits (omega (arith, ap length e))
-
-pub spelling_reads : (body : List ℕ) (r : GetFlowsResponse) → ResponseFits r → length body < 2 ^ 64 → body ≡ response_bytes r → read_response body ≡ r
-spelling_reads body r fits short e = ap read_response e ∙ response_again r fits (omega (arith, ap length e))

@@ -6,6 +6,7 @@ use Rattle.hb_wire.specs.Varint.{varint, varint_of}
 use Rattle.hb_wire.specs.Field.{Piece, Body, spelled, spelling}
 use Rattle.hb_flow.specs.Messages.{record_bytes, response_bytes, message_field, text_field, number_field, flow_bytes, stamp_bytes, of_signed}
 use Rattle.hb_flow.specs.declared.flow.Flow.{Flow}
+use Rattle.hb_flow.specs.declared.response.GetFlowsResponse.{GetFlowsResponse}
 use Rattle.hb_flow.specs.declared.stamp.Stamp.{Stamp}
 use Rattle.hubblet.specs.Reply.{handed_on}
 
@@ -63,4 +64,62 @@ unfolding record_bytes response_bytes
 handed_on_length name f =
     let flow = message_field 1 (Some (flow_bytes f)) in
     let time = message_field 1001 (option_map stamp_bytes f.time) in
-    omega (arith, spelling_length (flow ++ text_field 1000 name) time, spelling_length flow (text_field 1000 name), text_length 1000 name, time_length 1001 f.time)
+    omega (
+      arith,
+      length-append (spelling (flow ++ text_field 1000 name ++ time)) [],
+      length-append (spelling flow) [],
+      spelling_length (flow ++ text_field 1000 name) time,
+      spelling_length flow (text_field 1000 name),
+      text_length 1000 name,
+      time_length 1001 f.time,
+    )
+
+flow_length : (f : Flow) → length (flow_bytes f) ≤ 100 + length f.uuid + length f.unknown
+unfolding flow_bytes
+flow_length f =
+    let time = message_field 1 (option_map stamp_bytes f.time) in
+    let verdict = number_field 2 (of_signed f.verdict) in
+    let uuid = text_field 34 f.uuid in
+    omega (
+      arith,
+      length-append (spelling (time ++ verdict ++ uuid)) f.unknown,
+      spelling_length (time ++ verdict) uuid,
+      spelling_length time verdict,
+      time_length 1 f.time,
+      number_length 2 (of_signed f.verdict),
+      text_length 34 f.uuid,
+    )
+
+-- the bytes of a flow that is there whose length is not bounded by its form
+abbrev pub open_length : Option Flow → ℕ
+open_length None = 0
+open_length (Some f) = length f.uuid + length f.unknown
+
+flow_field_length : (flow : Option Flow) → length (spelling (message_field 1 (option_map flow_bytes flow))) ≤ 120 + open_length flow
+flow_field_length None = omega arith
+flow_field_length (Some f) = omega (arith, body_length 1 (flow_bytes f), flow_length f)
+
+-- an answer is little longer than what can be long in it
+pub response_length : (r : GetFlowsResponse) → length (response_bytes r) ≤ 200 + open_length r.flow + length r.node_name + length r.unknown
+unfolding response_bytes
+response_length r =
+    let flow = message_field 1 (option_map flow_bytes r.flow) in
+    let name = text_field 1000 r.node_name in
+    let time = message_field 1001 (option_map stamp_bytes r.time) in
+    omega (
+      arith,
+      length-append (spelling (flow ++ name ++ time)) r.unknown,
+      spelling_length (flow ++ name) time,
+      spelling_length flow name,
+      flow_field_length r.flow,
+      text_length 1000 r.node_name,
+      time_length 1001 r.time,
+    )
+
+-- so one in which nothing is long fits a frame
+pub small_with : (r : GetFlowsResponse) (f : Flow) → r.flow ≡ Some f → length f.uuid ≤ 16000 → length f.unknown ≤ 16000 → length r.node_name ≤ 16000 → length r.unknown ≤ 16000
+    → length (response_bytes r) ≤ 65536
+small_with r f is uuid unknown name others = omega (arith, response_length r, ap open_length is, uuid, unknown, name, others)
+
+pub small_without : (r : GetFlowsResponse) → r.flow ≡ None → length r.node_name ≤ 16000 → length r.unknown ≤ 16000 → length (response_bytes r) ≤ 65536
+small_without r is name others = omega (arith, response_length r, ap open_length is, name, others)

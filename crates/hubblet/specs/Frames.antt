@@ -30,11 +30,19 @@ pub record StartsFrame (bytes : List ℕ) (f : Frame) (after : List ℕ) : Type 
 abbrev pub StartsNoFrame : List ℕ → Type 0
 StartsNoFrame bytes = (f : Frame) (after : List ℕ) → StartsFrame bytes f after → ⊥
 
--- The cut of bytes: the list of whole frames that begins them, as long as it can be, and a rest.
-pub record IsCut (bytes : List ℕ) (frames : List Frame) (rest : List ℕ) : Type 0 where
-  pub whole : bytes ≡ flat_map frame_bytes frames ++ rest
+-- these whole frames begin them, one after another, and this is what comes after them
+pub record StartsFrames (bytes : List ℕ) (frames : List Frame) (rest : List ℕ) : Type 0 where
   pub fit : AllByRecursion IsFrame frames
+  pub whole : bytes ≡ flat_map frame_bytes frames ++ rest
+
+-- the cut of bytes: the list of whole frames that begins them, as long as it can be, and a rest
+pub record IsCut (bytes : List ℕ) (frames : List Frame) (rest : List ℕ) : Type 0 where
+  pub starts : StartsFrames bytes frames rest
   pub longest : StartsNoFrame rest
+
+-- a frame that is a message
+abbrev pub message_frame : List ℕ → Frame
+message_frame message = record { kind = 0; body = message }
 
 -- the message that a frame of kind 0 is
 abbrev pub message_in : Frame → Option (List ℕ)

@@ -1,17 +1,15 @@
 -- What reading a recording into a ring gave.
-use Rattle.std.specs.Prelude.{◌≡◌, ℕ, ◌≤◌, List, ◌∷◌, [], ◌++◌, length, map, Some}
+use Rattle.std.specs.Prelude.{◌≡◌, ℕ, ◌<◌, ◌≤◌, List, ◌∷◌, [], ◌++◌, length, map}
 use Rattle.std.specs.List.{AllByRecursion}
-use Rattle.hb_flow.specs.Messages.{response_bytes, record_bytes, FlowFits, ResponseFits}
-use Rattle.hb_flow.specs.declared.fault.DecodeFault.{DecodeFault}
-use Rattle.hb_flow.specs.declared.fault.DecodeFault.TheVariants as faults
+use Rattle.hb_flow.specs.Messages.{read_response, record_bytes, FlowFits}
 use Rattle.hb_flow.specs.declared.flow.Flow.{Flow}
 use Rattle.hb_flow.specs.declared.response.GetFlowsResponse.{GetFlowsResponse}
 use Rattle.hb_listring.specs.Log.{Kept, StandsFor}
 use Rattle.hubblet.specs.declared.recording.Untaken.{Untaken}
-use Rattle.hubblet.specs.declared.recording.Untaken.TheVariants.{OtherForm, NoMemory}
+use Rattle.hubblet.specs.declared.recording.Untaken.TheVariants.{BadRecord, OtherForm, NoMemory}
 use Rattle.hubblet.specs.Limits.{longest_record}
 use Rattle.hubblet.specs.Observe.{output}
-use Rattle.hubblet.specs.Recording.{IsTaken, Recorded, flows}
+use Rattle.hubblet.specs.Recording.{IsBad, IsTaken, IsOther, Recorded, IsBadRecord, IsOtherForm, flows}
 
 -- a flow whose record a ring keeps
 pub record IsKept (f : Flow) : Type 0 where
@@ -35,31 +33,25 @@ pub record IsAnswered (file frames : List ℕ) : Type 0 where
   pub recorded : Recorded file responses
   pub frames_are : frames ≡ output responses
 
--- the bytes are the canonical spelling of an answer that holds this flow
-pub record SpellsFlow (body : List ℕ) (flow : Flow) : Type 0 where
-  pub response : GetFlowsResponse
-  pub fits : ResponseFits response
-  pub holds : response.flow ≡ Some flow
-  pub spelled : body ≡ response_bytes response
+-- the message is taken, and the ring has the record of its flow more, where it has one
+pub record TakesMessage (message : List ℕ) (old new : Kept) : Type 0 where
+  pub taken : IsTaken message
+  pub logs : (log : List Flow) → Logs old log → Logs new (log ++ flows (read_response message ∷ []))
 
--- they are the canonical spelling of no answer that is taken
-abbrev pub IsOtherMessage : List ℕ → Type 0
-IsOtherMessage body = (r : GetFlowsResponse) → IsTaken r → body ≡ response_bytes r → ⊥
+-- why a message that starts at a place of the file was not taken
+abbrev pub IsUntakenMessage : List ℕ → ℕ → Untaken → Type 0
+IsUntakenMessage message at (BadRecord place) = (place ≡ at) × IsBad message
+IsUntakenMessage message at OtherForm = IsOther message
+IsUntakenMessage message at NoMemory = Unit {0}
 
--- the message spells an answer that is taken, and the ring has one record more, that of its flow
-pub record TakesMessage (body : List ℕ) (old new : Kept) : Type 0 where
-  pub flow : Flow
-  pub spells : SpellsFlow body flow
-  pub short : length (record_bytes flow) ≤ longest_record
-  pub stands : (log : List (List ℕ)) → StandsFor old log → StandsFor new (log ++ record_bytes flow ∷ [])
+-- why a flow was not kept: its record is too long, or memory was refused
+abbrev pub IsUnkept : Flow → Untaken → Type 0
+IsUnkept flow (BadRecord at) = ⊥
+IsUnkept flow OtherForm = longest_record < length (record_bytes flow)
+IsUnkept flow NoMemory = Unit {0}
 
--- why something was not taken: it has another form, or memory was refused
-abbrev pub IsUntaken : Type 0 → Untaken → Type 0
-IsUntaken other_form OtherForm = other_form
-IsUntaken other_form NoMemory = Unit {0}
-
--- what can not be read has another form
-abbrev pub untaken_by : DecodeFault → Untaken
-untaken_by (faults.Malformed at) = OtherForm
-untaken_by (faults.BadUtf8 at) = OtherForm
-untaken_by faults.NoMemory = NoMemory
+-- why a file was not taken
+abbrev pub IsUntaken : List ℕ → Untaken → Type 0
+IsUntaken file (BadRecord at) = IsBadRecord file at
+IsUntaken file OtherForm = IsOtherForm file
+IsUntaken file NoMemory = Unit {0}

@@ -6,7 +6,7 @@ use Rattle.hb_flow.specs.declared.response.GetFlowsResponse.{GetFlowsResponse}
 use Rattle.hubblet.specs.declared.status.Status.{Status}
 use Rattle.hubblet.specs.declared.status.Status.TheVariants.{Done, BadWords, ReadFault, WriteFault, BadRecord, NoMemory, TooLarge, OtherForm}
 use Rattle.hubblet.specs.Limits.{capacity, largest_file}
-use Rattle.hubblet.specs.Recording.{Recorded, IsOtherForm, flows}
+use Rattle.hubblet.specs.Recording.{Recorded, IsBadRecord, IsOtherForm, flows}
 use Rattle.hubblet.specs.Reply.{reply, localhost}
 
 -- the output for a recording of these answers
@@ -43,19 +43,24 @@ Observed name told read_failed write_failed before after (ReadFault file) =
 Observed name told read_failed write_failed before after (TooLarge file) =
     (file ≡ name) × (after ≡ before) × ForSome told (λ files. (bytes : List ℕ) × Has files name bytes
     × (largest_file < length bytes))
+Observed name told read_failed write_failed before after (BadRecord file at) =
+    (file ≡ name) × (after ≡ before) × ForSome told (λ files. (bytes : List ℕ) × Has files name bytes
+    × (length bytes ≤ largest_file) × IsBadRecord bytes at)
 Observed name told read_failed write_failed before after (OtherForm file) =
     (file ≡ name) × (after ≡ before) × ForSome told (λ files. (bytes : List ℕ) × Has files name bytes
     × (length bytes ≤ largest_file) × IsOtherForm bytes)
 Observed name told read_failed write_failed before after NoMemory = after ≡ before
--- these do not come
+-- this does not come
 Observed name told read_failed write_failed before after BadWords = ⊥
-Observed name told read_failed write_failed before after (BadRecord file at) = ⊥
 
 -- What is to come of a file that the shelf tells of, where no read failed. Want of memory alone is free.
 pub record Completes (name file : List ℕ) (write_failed : Type 0) (status : Status) : Type 0 where
   -- a file that is too large
   pub too_large : largest_file < length file → (status ≡ TooLarge name) ⊎ (status ≡ NoMemory)
-  -- one of another form
+  -- one whose first frame that is not taken is bad
+  pub bad_record : length file ≤ largest_file → (at : ℕ) → IsBadRecord file at
+      → (status ≡ BadRecord name at) ⊎ (status ≡ NoMemory)
+  -- or of another form
   pub other_form : length file ≤ largest_file → IsOtherForm file
       → (status ≡ OtherForm name) ⊎ (status ≡ NoMemory)
   -- a recording, where no write failed

@@ -1,30 +1,90 @@
--- A recording: frames, of which each message is an answer of a node that holds a flow.
-use Rattle.std.specs.Prelude.{◌≡◌, ◌≤◌, ℕ, List, [], length, map, IsSome, IfSome}
-use Rattle.std.specs.List.{filter_map, AllByRecursion}
-use Rattle.hb_flow.specs.Messages.{response_bytes, record_bytes, ResponseFits}
+-- A recording: frames, of which each message is an answer of a node.
+use Rattle.std.specs.Prelude.{◌≡◌, ◌⊎◌, ◌<◌, ◌≤◌, ◌||◌, ◌==◌, if◌then◌else◌, ℕ, List, [], length, map, Option, None, IsSome, IfSome}
+use Rattle.std.specs.List.{filter_map, flat_map, AllByRecursion}
+use Rattle.hb_wire.specs.Field.{Piece}
+use Rattle.hb_flow.specs.Fields.{parts, body_in}
+use Rattle.hb_flow.specs.Faults.{response_fault}
+use Rattle.hb_flow.specs.Messages.{read_response, response_bytes, record_bytes}
 use Rattle.hb_flow.specs.declared.flow.Flow.{Flow}
 use Rattle.hb_flow.specs.declared.response.GetFlowsResponse.{GetFlowsResponse}
-use Rattle.hubblet.specs.Frames.{Frame, IsCut, messages}
-use Rattle.hubblet.specs.Limits.{longest_record}
+use Rattle.hubblet.specs.Frames.{Frame, StartsFrame, StartsNoFrame, StartsFrames, IsCut, frame_bytes, message_frame, messages}
+use Rattle.hubblet.specs.Limits.{longest_body, longest_record}
 
--- an answer that is taken: it holds a flow, whose record is as short as the ring asks
-pub record IsTaken (r : GetFlowsResponse) : Type 0 where
-  pub fits : ResponseFits r
-  pub holds : IsSome r.flow
-  pub recorded : IfSome r.flow (λ f. length (record_bytes f) ≤ longest_record)
+-- ---- a message
 
--- The file is a recording of these answers: it is cut into frames with no rest, and its messages are the
--- answers, each in its canonical spelling. Frames of other kinds are passed over, whatever their body.
+-- it has no fault, and its answer, spelled anew, fits a frame
+pub record IsSound (message : List ℕ) : Type 0 where
+  pub no_fault : response_fault message ≡ None
+  pub short : length (response_bytes (read_response message)) ≤ longest_body
+
+-- it has a fault, or its answer, spelled anew, fits no frame
+abbrev pub IsBad : List ℕ → Type 0
+IsBad message = IsSome (response_fault message) ⊎ (longest_body < length (response_bytes (read_response message)))
+
+-- the events of an answer that are no flow: a node's status, 2, and lost events, 3
+abbrev pub other_event : Piece → Option (List ℕ)
+other_event field = if field.number == 2 || field.number == 3 then body_in field.content else None
+
+abbrev pub other_events : List ℕ → List (List ℕ)
+other_events message = filter_map (λ p. other_event p.field) (parts message)
+
+-- its flow, where it has one, has a record that the ring can keep
+abbrev pub KeepsFlow : List ℕ → Type 0
+KeepsFlow message = IfSome (read_response message).flow (λ f. length (record_bytes f) ≤ longest_record)
+
+-- it is taken
+pub record IsTaken (message : List ℕ) : Type 0 where
+  pub sound : IsSound message
+  pub no_other : other_events message ≡ []
+  pub kept : KeepsFlow message
+
+-- it is sound, and has a form that is not taken
+pub record IsOther (message : List ℕ) : Type 0 where
+  pub sound : IsSound message
+  pub other : (other_events message ≡ [] → ⊥) ⊎ (KeepsFlow message → ⊥)
+
+-- ---- a file
+
+-- these frames begin the file, and their messages are taken; then the rest comes
+pub record TakesFrames (file : List ℕ) (frames : List Frame) (rest : List ℕ) : Type 0 where
+  pub starts : StartsFrames file frames rest
+  pub taken : AllByRecursion IsTaken (messages frames)
+
+-- The file is a recording of these answers: it is cut into frames with no rest, whose messages are
+-- taken and read as the answers. Frames of other kinds are passed over, whatever their body.
 pub record Recorded (file : List ℕ) (responses : List GetFlowsResponse) : Type 0 where
   pub frames : List Frame
   pub cut : IsCut file frames []
-  pub spelled : messages frames ≡ map response_bytes responses
-  pub taken : AllByRecursion IsTaken responses
+  pub taken : AllByRecursion IsTaken (messages frames)
+  pub read : responses ≡ map read_response (messages frames)
 
--- it is the recording of no list of answers
+-- it goes on, but with no whole frame, or with one whose message is bad
+abbrev pub IsBadFront : List ℕ → Type 0
+IsBadFront rest = ((0 < length rest) × StartsNoFrame rest)
+    ⊎ ((message : List ℕ) × (after : List ℕ) × StartsFrame rest (message_frame message) after × IsBad message)
+
+-- the first frame of the file that is not taken is bad, and so many bytes come before it
+pub record IsBadRecord (file : List ℕ) (at : ℕ) : Type 0 where
+  pub frames : List Frame
+  pub rest : List ℕ
+  pub before : TakesFrames file frames rest
+  pub place : at ≡ length (flat_map frame_bytes frames)
+  pub bad : IsBadFront rest
+
+-- the first frame of the file that is not taken is of another form
 pub record IsOtherForm (file : List ℕ) : Type 0 where
-  pub none : (responses : List GetFlowsResponse) → Recorded file responses → ⊥
+  pub frames : List Frame
+  pub rest : List ℕ
+  pub before : TakesFrames file frames rest
+  pub message : List ℕ
+  pub after : List ℕ
+  pub next : StartsFrame rest (message_frame message) after
+  pub other : IsOther message
 
 -- the flows of a recording, in order: what a node logs
 abbrev pub flows : List GetFlowsResponse → List Flow
 flows responses = filter_map (λ r. r.flow) responses
+
+-- the frames of answers, each in its canonical spelling
+abbrev pub canonical : List GetFlowsResponse → List ℕ
+canonical responses = flat_map (λ r. frame_bytes (message_frame (response_bytes r))) responses

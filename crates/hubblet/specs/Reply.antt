@@ -9,7 +9,7 @@ use Rattle.hubblet.specs.Frames.{frame}
 
 -- the answer that hands on a flow: with the node's name, and the flow's time where it has one
 abbrev pub handed_on : List ℕ → Flow → GetFlowsResponse
-handed_on name flow = record { flow = Some flow; node_name = name; time = flow.time }
+handed_on name flow = record { flow = Some flow; node_name = name; time = flow.time; unknown = [] }
 
 -- its frame
 abbrev pub answer_frame : List ℕ → Flow → List ℕ

@@ -13,7 +13,7 @@ pub const MESSAGE: u8 = 0;
 const CANCEL: u8 = 3;
 
 /// The greatest length of a frame's body, in bytes.
-const BODY: usize = 65_536;
+pub const BODY: usize = 65_536;
 
 /// The frame at the front of some bytes, and what comes after it, in place.
 #[derive(Clone, Copy, Debug)]

@@ -16,7 +16,7 @@ mod words;
 mod writing;
 
 use hb_edge::{FileShelf, RealClock, StdoutSink};
-pub use laws::{one_cut, one_recording};
+pub use laws::{one_cut, one_reading, one_reply};
 pub use observe::run;
 pub use status::Status;
 use std::env;

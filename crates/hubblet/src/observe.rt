@@ -3,7 +3,6 @@ ghost use Rattle.std.specs.Prelude.{◌≡◌, ◌≤◌, ◌↔◌, ◌⊎◌, 
 ghost use Rattle.hb_edge.specs.Causes.{Rose};
 ghost use Rattle.hb_edge.specs.Shelf.{Files};
 ghost use Rattle.hubblet.specs.Words.{IsObserve};
-ghost use Rattle.hubblet.specs.Recording.{IsOtherForm};
 ghost use Rattle.hubblet.specs.Ingest.{IsAnswered, IsUntaken};
 ghost use Rattle.hubblet.specs.Observe.{Has, Observed, Completes};
 ghost use Rattle.hubblet.specs.Refusal.{refusal};
@@ -92,7 +91,7 @@ fn observe<S: Shelf, K: Sink>(alloc: Global, name: &str, shelf: &mut S, out: &mu
 /// The reply of a node whose ring takes the recording.
 fn answer(alloc: Global, file: &[u8]) -> Result<Vec<u8>, Untaken>
     ensures ok { IfOk result (λ frames. IsAnswered file.now frames.items) }
-    ensures err { IfErr result (IsUntaken (IsOtherForm file.now)) }
+    ensures err { IfErr result (IsUntaken file.now) }
 {
     let Ok(mut ring) = ListRing::open(alloc, CAPACITY, RECORD) else {
         return Err(Untaken::NoMemory);
@@ -123,6 +122,7 @@ fn refused(alloc: Global, name: &str, why: Refusal) -> Status
     match why {
         Refusal::Unread(Unread::Failed) => Status::ReadFault { file },
         Refusal::Unread(Unread::TooLarge) => Status::TooLarge { file },
+        Refusal::Untaken(Untaken::BadRecord { at }) => Status::BadRecord { file, at },
         Refusal::Untaken(Untaken::OtherForm) => Status::OtherForm { file },
         Refusal::Unread(Unread::NoMemory) | Refusal::Untaken(Untaken::NoMemory) => Status::NoMemory,
     }

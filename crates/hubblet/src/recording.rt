@@ -1,40 +1,34 @@
 //! Reading a recording into a ring.
-ghost use Rattle.std.specs.Prelude.{◌≡◌, ◌<◌, ◌≤◌, ◌^◌, ℕ, List, [], ◌∷◌, ◌++◌, length, IfOk, IfErr, OnOk};
-ghost use Rattle.hb_flow.specs.Messages.{record_bytes};
+ghost use Rattle.std.specs.Prelude.{◌≡◌, ◌<◌, ◌≤◌, ◌^◌, ◌↔◌, ℕ, List, [], ◌∷◌, ◌++◌, length, true, false, is_some, IfOk, IfErr, OnOk};
+ghost use Rattle.hb_wire.specs.Field.{piece_of};
+ghost use Rattle.hb_flow.specs.Messages.{record_bytes, response_bytes};
 ghost use Rattle.hb_listring.specs.Log.{StandsFor};
-ghost use Rattle.hubblet.specs.Recording.{IsOtherForm};
-ghost use Rattle.hubblet.specs.Ingest.{SpellsFlow, IsOtherMessage, TakesMessage, IsUntaken, Ingests};
+ghost use Rattle.hubblet.specs.Limits.{longest_body, longest_record};
+ghost use Rattle.hubblet.specs.Recording.{other_event, other_events};
+ghost use Rattle.hubblet.specs.Ingest.{TakesMessage, IsUntakenMessage, IsUnkept, IsUntaken, Ingests};
 
-use crate::frames::{MESSAGE, first_frame};
+use crate::frames::{BODY, MESSAGE, first_frame};
 use hb_flow::{DecodeFault, Flow, GetFlowsResponse, record_of};
 use hb_listring::{ListRing, Put};
-use hb_wire::NoMemory;
+use hb_wire::{Field, NoMemory, next_field};
 use std::alloc::Global;
 
 /// The greatest length of a flow's record, in bytes.
 pub const RECORD: usize = 8_192;
 
+/// The length up to which a text, or the bytes of fields that are not known, are small: an answer that
+/// has no longer ones fits a frame, whatever its other fields are.
+const SMALL: usize = 16_000;
+
 /// Why a recording was not taken.
 #[derive(Clone, Copy, Debug, PartialEq, Eq)]
 pub enum Untaken {
-    /// The bytes have a form that is not read yet.
+    /// The frame that starts at this place is not whole, is refused, or its message is bad.
+    BadRecord { at: u64 },
+    /// A message has a form that is not taken yet.
     OtherForm,
     /// Memory was refused.
     NoMemory,
-}
-
-impl From<DecodeFault> for Untaken {
-    ghost use Rattle.hubblet.specs.Ingest.{untaken_by};
-
-    ghost from_gives = { λ fault why. why ≡ untaken_by fault };
-
-    /// What can not be read has another form.
-    fn from(fault: DecodeFault) -> Untaken {
-        match fault {
-            DecodeFault::Malformed { .. } | DecodeFault::BadUtf8 { .. } => Untaken::OtherForm,
-            DecodeFault::NoMemory => Untaken::NoMemory,
-        }
-    }
 }
 
 impl From<NoMemory> for Untaken {
@@ -53,62 +47,117 @@ pub fn ingest(alloc: Global, file: &[u8], ring: &mut ListRing) -> Result<(), Unt
     requires empty { StandsFor ring.old [] }
     requires slot { ring.old.slot ≡ RECORD }
     ensures ok { OnOk result (Ingests file.now ring.new) }
-    ensures err { IfErr result (IsUntaken (IsOtherForm file.now)) }
+    ensures err { IfErr result (IsUntaken file.now) }
     ensures limits { (ring.new.capacity ≡ ring.old.capacity) × (ring.new.slot ≡ ring.old.slot) }
 {
     let mut scratch = Vec::new(alloc);
     let mut rest = file;
     while !rest.is_empty() {
+        let at = (file.len() - rest.len()) as u64;
         let Some(frame) = first_frame(rest) else {
-            return Err(Untaken::OtherForm);
+            return Err(Untaken::BadRecord { at });
         };
         if frame.kind == MESSAGE {
-            take_message(alloc, frame.body, &mut scratch, ring)?;
+            take_message(alloc, at, frame.body, &mut scratch, ring)?;
         }
         rest = frame.after;
     }
     Ok(())
 }
 
-/// Puts the record of a message's flow into the ring. What the vector holds is overwritten.
+/// Puts the record of a message's flow into the ring, where it has one. The message stands in the
+/// frame that starts at this place. What the vector holds is overwritten.
 fn take_message(
     alloc: Global,
-    body: &[u8],
+    at: u64,
+    message: &[u8],
     scratch: &mut Vec<u8>,
     ring: &mut ListRing,
 ) -> Result<(), Untaken>
     requires slot { ring.old.slot ≡ RECORD }
     requires room { ring.old.written < 2 ^ 62 }
-    ensures ok { OnOk result (TakesMessage body.now ring.old ring.new) }
-    ensures err { IfErr result (IsUntaken (IsOtherMessage body.now)) }
+    ensures ok { OnOk result (TakesMessage message.now ring.old ring.new) }
+    ensures err { IfErr result (IsUntakenMessage message.now at) }
     ensures limits { (ring.new.capacity ≡ ring.old.capacity) × (ring.new.slot ≡ ring.old.slot) }
 {
-    let flow = canonical_flow(alloc, body, scratch)?;
-    keep(&flow, scratch, ring)
-}
-
-/// The flow of an answer that is spelled canonically.
-fn canonical_flow(alloc: Global, body: &[u8], again: &mut Vec<u8>) -> Result<Flow, Untaken>
-    ensures ok { IfOk result (SpellsFlow body.now) }
-    ensures err { IfErr result (IsUntaken (IsOtherMessage body.now)) }
-{
-    let response = GetFlowsResponse::read(alloc, body)?;
-    again.clear();
-    response.write(again)?;
-    if again.as_slice() != body {
+    let response = match GetFlowsResponse::read(alloc, message) {
+        Ok(response) => response,
+        Err(DecodeFault::NoMemory) => return Err(Untaken::NoMemory),
+        Err(DecodeFault::Malformed { .. }) => return Err(Untaken::BadRecord { at }),
+        Err(DecodeFault::BadUtf8 { .. }) => return Err(Untaken::BadRecord { at }),
+    };
+    if !fits_frame(&response, scratch)? {
+        return Err(Untaken::BadRecord { at });
+    }
+    if has_other_event(response.unknown.as_slice()) {
         return Err(Untaken::OtherForm);
     }
-    let GetFlowsResponse { flow, .. } = response;
-    flow.ok_or(Untaken::OtherForm)
+    match &response.flow {
+        Some(flow) => keep(flow, scratch, ring),
+        None => Ok(()),
+    }
+}
+
+/// Whether the answer, spelled anew, fits a frame. It is spelled only where it is not small.
+fn fits_frame(response: &GetFlowsResponse, scratch: &mut Vec<u8>) -> Result<bool, NoMemory>
+    ensures { IfOk result
+        (λ fits. (fits ≡ true) ↔ (length (response_bytes response.now) ≤ longest_body)) }
+{
+    if is_small(response) {
+        return Ok(true);
+    }
+    scratch.clear();
+    response.write(scratch)?;
+    Ok(scratch.len() <= BODY)
+}
+
+/// Whether all that can be long in an answer is small. Where it says no in vain, time alone is lost.
+fn is_small(response: &GetFlowsResponse) -> bool
+    ensures { result ≡ true → length (response_bytes response.now) ≤ longest_body }
+{
+    if response.node_name.as_str().len() > SMALL || response.unknown.as_slice().len() > SMALL {
+        return false;
+    }
+    match &response.flow {
+        Some(flow) => flow.uuid.as_str().len() <= SMALL && flow.unknown.as_slice().len() <= SMALL,
+        None => true,
+    }
+}
+
+/// Whether fields that are not known hold an event that is no flow: a node's status or lost events.
+fn has_other_event(fields: &[u8]) -> bool
+    ensures { (result ≡ false) ↔ (other_events fields.now ≡ []) }
+{
+    let mut at = 0;
+    while at < fields.len() {
+        let Ok((field, end)) = next_field(fields, at) else {
+            return false;
+        };
+        if is_other_event(field) {
+            return true;
+        }
+        at = end;
+    }
+    false
+}
+
+fn is_other_event(field: Field<'_>) -> bool
+    ensures { result ≡ is_some (other_event (piece_of field.entry)) }
+{
+    match field {
+        Field::Body { number, .. } => number == 2 || number == 3,
+        Field::Varint { .. } | Field::Fixed64 { .. } | Field::Fixed32 { .. } => false,
+    }
 }
 
 /// Puts the record of a flow into the ring.
 fn keep(flow: &Flow, record: &mut Vec<u8>, ring: &mut ListRing) -> Result<(), Untaken>
+    requires slot { ring.old.slot ≡ RECORD }
     requires room { ring.old.written < 2 ^ 62 }
-    ensures ok { OnOk result ((log : List (List ℕ)) → StandsFor ring.old log
-        → StandsFor ring.new (log ++ record_bytes flow.now ∷ [])) }
-    ensures fits { OnOk result (length (record_bytes flow.now) ≤ ring.old.slot) }
-    ensures err { IfErr result (IsUntaken (ring.old.slot < length (record_bytes flow.now))) }
+    ensures ok { OnOk result ((length (record_bytes flow.now) ≤ longest_record)
+        × ((log : List (List ℕ)) → StandsFor ring.old log
+        → StandsFor ring.new (log ++ record_bytes flow.now ∷ []))) }
+    ensures err { IfErr result (IsUnkept flow.now) }
     ensures limits { (ring.new.capacity ≡ ring.old.capacity) × (ring.new.slot ≡ ring.old.slot) }
 {
     record.clear();

@@ -1,5 +1,5 @@
 //! The reply of a node to a request for all the flows that it keeps.
-ghost use Rattle.std.specs.Prelude.{◌≡◌, ◌≤◌, ◌++◌, List, length, IfOk, OnOk};
+ghost use Rattle.std.specs.Prelude.{◌≡◌, ◌≤◌, ◌++◌, List, [], length, IfOk, OnOk};
 ghost use Rattle.hb_flow.specs.Messages.{record_bytes};
 ghost use Rattle.hb_flow.specs.declared.flow.Flow.{Flow};
 ghost use Rattle.hubblet.specs.Reply.{answer_frame, reply};
@@ -8,7 +8,7 @@ ghost use Rattle.hubblet.specs.Ingest.{IsKept, Logs};
 use crate::frames::{MESSAGE, put_frame};
 use hb_flow::{DecodeFault, Flow, GetFlowsResponse, event_of};
 use hb_listring::ListRing;
-use hb_wire::{NoMemory, Text};
+use hb_wire::{NoMemory, Seq, Text};
 use std::alloc::Global;
 
 /// How many of its newest records a node answers with.
@@ -30,6 +30,7 @@ pub fn reply_of(alloc: Global, ring: &ListRing, name: &str) -> Result<Vec<u8>, N
         flow: None,
         node_name: Text::of(alloc, name)?,
         time: None,
+        unknown: Seq::new(alloc)?,
     };
     let mut body = Vec::new(alloc);
     let mut frames = Vec::new(alloc);
@@ -71,9 +72,11 @@ fn put_answer(
 ) -> Result<(), NoMemory>
     requires kept { IsKept flow }
     requires name { length answer.old.node_name ≤ 63 }
+    requires known { answer.old.unknown ≡ [] }
     ensures ok { OnOk result (frames.new.items
         ≡ frames.old.items ++ answer_frame answer.old.node_name flow) }
-    ensures name { answer.new.node_name ≡ answer.old.node_name }
+    ensures lends { (answer.new.node_name ≡ answer.old.node_name)
+        × (answer.new.unknown ≡ answer.old.unknown) }
 {
     answer.time = flow.time;
     answer.flow = Some(flow);

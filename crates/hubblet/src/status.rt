@@ -15,13 +15,13 @@ pub enum Status {
     ReadFault { file: Text },
     /// A write of the output failed.
     WriteFault,
-    /// No record starts at this place of the file, in bytes.
+    /// The frame that starts at this place of the file, in bytes, is bad.
     BadRecord { file: Text, at: u64 },
     /// Memory was refused.
     NoMemory,
     /// The file has more than 2^30 bytes.
     TooLarge { file: Text },
-    /// The file has a form that is not read yet.
+    /// The file has a form that is not taken yet.
     OtherForm { file: Text },
 }
 

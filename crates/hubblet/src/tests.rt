@@ -4,6 +4,9 @@ use hb_edge::{MemShelf, MemSink, SetClock};
 use hb_wire::Text;
 use std::test::Fail;
 
+mod faults;
+mod spellings;
+
 /// The end of a reply.
 const OK: [u8; 5] = [2, 0, 0, 0, 0];
 
@@ -57,6 +60,62 @@ fn is_answered_by(rt: HostRuntime, file: &[u8], frames: &[u8]) -> Result<bool, F
     let mut reply = frames.to_vec(rt.alloc())?;
     reply.extend_from_slice(&OK)?;
     Ok(code == 0 && line.is_empty() && sent == reply)
+}
+
+/// Appends the frame of a message.
+fn put_message(file: &mut Vec<u8>, message: &[u8]) -> Result<(), Fail> {
+    let length = (message.len() as u64 % (1 << 32)) as u32;
+    file.push(0)?;
+    file.extend_from_slice(&length.to_be_bytes())?;
+    file.extend_from_slice(message)?;
+    Ok(())
+}
+
+fn frame_of(rt: HostRuntime, message: &[u8]) -> Result<Vec<u8>, Fail> {
+    let mut frame = Vec::new(rt.alloc());
+    put_message(&mut frame, message)?;
+    Ok(frame)
+}
+
+/// Appends the shortest varint of a number below 2^21.
+fn put_varint(out: &mut Vec<u8>, value: u32) -> Result<(), Fail> {
+    let low = (value % 128) as u8;
+    let middle = (value / 128 % 128) as u8;
+    let high = (value / 16_384 % 128) as u8;
+    if value >= 16_384 {
+        out.extend_from_slice(&[low + 128, middle + 128, high])?;
+    } else if value >= 128 {
+        out.extend_from_slice(&[low + 128, middle])?;
+    } else {
+        out.push(low)?;
+    }
+    Ok(())
+}
+
+/// Appends a field: its tag, the length of its body of fewer than 2^21 bytes, and the body.
+fn put_field(out: &mut Vec<u8>, tag: &[u8], body: &[u8]) -> Result<(), Fail> {
+    out.extend_from_slice(tag)?;
+    put_varint(out, (body.len() as u64 % 2_097_152) as u32)?;
+    out.extend_from_slice(body)?;
+    Ok(())
+}
+
+/// These bytes, and then a field with this tag and a body of so many letters.
+fn with_letters(rt: HostRuntime, front: &[u8], tag: &[u8], count: u32) -> Result<Vec<u8>, Fail> {
+    let mut letters = Vec::new(rt.alloc());
+    for _ in 0..count {
+        letters.push(b'u')?;
+    }
+    let mut bytes = front.to_vec(rt.alloc())?;
+    put_field(&mut bytes, tag, &letters)?;
+    Ok(bytes)
+}
+
+/// The message that holds a flow of these bytes.
+fn flow_message(rt: HostRuntime, flow: &[u8]) -> Result<Vec<u8>, Fail> {
+    let mut message = Vec::new(rt.alloc());
+    put_field(&mut message, &[10], flow)?;
+    Ok(message)
 }
 
 #[test]
@@ -118,101 +177,82 @@ fn frames_are_answered_in_order(rt: HostRuntime) -> Result<(), Fail> {
     Ok(())
 }
 
-/// The frame of a flow with a uuid of so many letters, from 128 to 16,000 of them.
-fn flow_of_letters(rt: HostRuntime, letters: u16) -> Result<Vec<u8>, Fail> {
-    let mut frame = vec![in rt.alloc(); 0]?;
-    frame.extend_from_slice(&(u32::from(letters) + 7).to_be_bytes())?;
-    let size = letters.saturating_add(4);
-    frame.extend_from_slice(&[10, (size % 128) as u8 + 128, (size / 128 % 128) as u8])?;
-    frame.extend_from_slice(&[146, 2])?;
-    frame.extend_from_slice(&[(letters % 128) as u8 + 128, (letters / 128 % 128) as u8])?;
-    for _ in 0..letters {
-        frame.push(b'u')?;
-    }
-    Ok(frame)
-}
-
 #[test]
 fn a_record_has_at_most_8192_bytes(rt: HostRuntime) -> Result<(), Fail> {
-    for (letters, want) in [(8185, 0), (8186, 13)] {
-        let (code, _, _) = answered(rt, &flow_of_letters(rt, letters)?)?;
+    // A uuid, and a field that is not known.
+    let cases: [(&[u8], u32, u8); 4] = [
+        (&[146, 2], 8_185, 0),
+        (&[146, 2], 8_186, 13),
+        (&[58], 8_186, 0),
+        (&[58], 8_187, 13),
+    ];
+    for (tag, letters, want) in cases {
+        let message = flow_message(rt, &with_letters(rt, &[], tag, letters)?)?;
+        let (code, _, _) = answered(rt, &frame_of(rt, &message)?)?;
         assert_eq!(rt; code, want, "{letters} letters");
     }
     Ok(())
 }
 
 #[test]
-fn another_form_is_refused(rt: HostRuntime) -> Result<(), Fail> {
-    let files: [&[u8]; 21] = [
-        // a frame that is not whole: in its head, in its body, and after a whole one
-        &[0],
-        &[3, 0, 0, 0],
-        &[0, 0, 0, 0, 12, 10],
-        &[1, 0, 0, 0, 1],
-        &[0, 0, 0, 0, 8, 10, 6, 16, 1, 146, 2, 1, 48, 0],
-        &[0, 0, 0, 0, 4, 10, 2, 16, 1, 0, 0, 0, 0, 4, 10, 2, 16],
-        // a kind that is not known, and a body of 65,537 bytes
-        &[4, 0, 0, 0, 0],
-        &[3, 0, 1, 0, 1],
-        // no flow, or another member, also behind a flow
-        &[0, 0, 0, 0, 0],
-        &[0, 0, 0, 0, 4, 10, 2, 16, 1, 0, 0, 0, 0, 0],
-        &[0, 0, 0, 0, 2, 18, 0],
-        &[0, 0, 0, 0, 3, 202, 62, 0],
-        // a spelling that is not canonical
-        &[0, 0, 0, 0, 6, 10, 4, 16, 1, 16, 2],
-        &[0, 0, 0, 0, 8, 10, 6, 146, 2, 1, 48, 16, 1],
-        &[0, 0, 0, 0, 4, 10, 2, 16, 0],
-        &[0, 0, 0, 0, 5, 10, 3, 16, 129, 0],
-        &[0, 0, 0, 0, 5, 138, 0, 2, 16, 1],
-        // a field that is not known
-        &[0, 0, 0, 0, 6, 10, 4, 16, 1, 56, 5],
-        // malformed, and not UTF-8
-        &[0, 0, 0, 0, 4, 10, 2, 16, 128],
-        &[0, 0, 0, 0, 4, 10, 3, 16, 1],
-        &[0, 0, 0, 0, 6, 10, 4, 146, 2, 1, 255],
+fn a_record_is_of_the_flow_anew(rt: HostRuntime) -> Result<(), Fail> {
+    // 5,000 verdicts are one.
+    let mut verdicts = Vec::new(rt.alloc());
+    for _ in 0..5_000 {
+        verdicts.extend_from_slice(&[16, 1])?;
+    }
+    let file = frame_of(rt, &flow_message(rt, &verdicts)?)?;
+    let answer = [
+        0, 0, 0, 0, 16, 10, 2, 16, 1, 194, 62, 9, 108, 111, 99, 97, 108, 104, 111, 115, 116,
     ];
-    for file in files {
-        let (code, line, sent) = answered(rt, file)?;
-        assert_eq!(rt;
-            (code, line.as_str()),
-            (13, "f: form not built"),
-            "{file:?}"
-        );
-        assert!(rt; sent.is_empty(), "{file:?}");
+    assert!(rt; is_answered_by(rt, &file, &answer)?);
+    // What two flows of one message hold is in one record: of 8,191 bytes, and of 8,193.
+    for (letters, want) in [(4_091, 0), (4_092, 13)] {
+        let flow = with_letters(rt, &[], &[58], letters)?;
+        let mut message = flow_message(rt, &flow)?;
+        put_field(&mut message, &[10], &flow)?;
+        let (code, _, _) = answered(rt, &frame_of(rt, &message)?)?;
+        assert_eq!(rt; code, want, "{letters} letters");
+    }
+    Ok(())
+}
+
+#[test]
+fn long_fields_beside_a_flow_are_passed_over(rt: HostRuntime) -> Result<(), Fail> {
+    // The message of `ONE`.
+    let flow = [10, 10, 10, 2, 8, 1, 16, 1, 146, 2, 1, 48];
+    // Each message comes twice.
+    let mut answers = ANSWER.to_vec(rt.alloc())?;
+    answers.extend_from_slice(&ANSWER)?;
+    // A field that is not known, and a name; with the longer one a message has 65,536 bytes.
+    let cases: [(&[u8], u32); 4] = [
+        (&[34], 17_000),
+        (&[34], 65_520),
+        (&[194, 62], 17_000),
+        (&[194, 62], 65_519),
+    ];
+    for (tag, letters) in cases {
+        let message = with_letters(rt, &flow, tag, letters)?;
+        let mut file = frame_of(rt, &message)?;
+        put_message(&mut file, &message)?;
+        assert!(rt; is_answered_by(rt, &file, &answers)?, "{letters} letters");
     }
     Ok(())
 }
 
 #[test]
 fn a_body_has_at_most_65536_bytes(rt: HostRuntime) -> Result<(), Fail> {
-    for (head, letters, want) in [([1, 0, 1, 0, 0], 65_536, 0), ([1, 0, 1, 0, 1], 65_537, 13)] {
+    for (head, letters, want) in [
+        ([1, 0, 1, 0, 0], 65_536, (0, "")),
+        ([1, 0, 1, 0, 1], 65_537, (5, "f: bad record at 0")),
+    ] {
         let mut file = head.to_vec(rt.alloc())?;
         for _ in 0..letters {
             file.push(b'x')?;
         }
-        let (code, _, _) = answered(rt, &file)?;
-        assert_eq!(rt; code, want, "{letters} letters");
+        let (code, line, _) = answered(rt, &file)?;
+        assert_eq!(rt; (code, line.as_str()), want, "{letters} letters");
     }
-    Ok(())
-}
-
-/// Appends a varint of one or two bytes.
-fn put_varint(out: &mut Vec<u8>, value: u16) -> Result<(), Fail> {
-    if value >= 128 {
-        out.push((value % 128 + 128) as u8)?;
-        out.push((value / 128 % 128) as u8)?;
-    } else {
-        out.push(value as u8)?;
-    }
-    Ok(())
-}
-
-/// Appends a byte, the length of a part of fewer than 128 bytes, and the part.
-fn put_part(out: &mut Vec<u8>, tag: u8, part: &[u8]) -> Result<(), Fail> {
-    out.push(tag)?;
-    out.push((part.len() % 128) as u8)?;
-    out.extend_from_slice(part)?;
     Ok(())
 }
 
@@ -222,15 +262,16 @@ fn recording_of(rt: HostRuntime, count: u16) -> Result<Vec<u8>, Fail> {
     let mut file = Vec::new(rt.alloc());
     for number in 0..count {
         let mut time = [8].to_vec(rt.alloc())?;
-        put_varint(&mut time, number.saturating_add(1))?;
+        put_varint(&mut time, u32::from(number) + 1)?;
         let mut flow = Vec::new(rt.alloc());
-        put_part(&mut flow, 10, &time)?;
-        flow.extend_from_slice(&[16, 1, 146])?;
-        put_part(&mut flow, 2, number.to_string(rt.alloc())?.as_bytes())?;
-        let mut message = Vec::new(rt.alloc());
-        put_part(&mut message, 10, &flow)?;
-        file.extend_from_slice(&[0, 0, 0])?;
-        put_part(&mut file, 0, &message)?;
+        put_field(&mut flow, &[10], &time)?;
+        flow.extend_from_slice(&[16, 1])?;
+        put_field(
+            &mut flow,
+            &[146, 2],
+            number.to_string(rt.alloc())?.as_bytes(),
+        )?;
+        put_message(&mut file, &flow_message(rt, &flow)?)?;
     }
     Ok(file)
 }

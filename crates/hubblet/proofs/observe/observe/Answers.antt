@@ -1,7 +1,6 @@
 use Rattle.std.proofs.Common.{subst}
 use Rattle.hb_edge.specs.Causes.{Rose}
 use Rattle.hubblet.specs.Ingest.{IsAnswered, IsUntaken}
-use Rattle.hubblet.specs.Recording.{IsOtherForm}
 use Rattle.hubblet.proofs.Completed.{whole_file, completes_untaken, completes_done, completes_write_fault}
 use Rattle.hubblet.proofs.observe.observe.Goals as goal
 
@@ -10,7 +9,7 @@ returns-in-Err-answer-clause-completes g c = λ file files told has _.
     let name = c.args.name.now in
     let bytes = c.in-Ok.file.items in
     let same = whole_file _ files name bytes file c.in-Ok.ensures.ok told has in
-    let untaken = subst (λ f. IsUntaken (IsOtherForm f) c.in-Err-answer.why) c.deref.ensures.value c.in-Err-answer.ensures.err in
+    let untaken = subst (λ f. IsUntaken f c.in-Err-answer.why) c.deref.ensures.value c.in-Err-answer.ensures.err in
     completes_untaken name bytes file _ c.in-Err-answer.why c.refused-in-Err-answer.result same c.in-Ok.ensures.ok.0 untaken c.refused-in-Err-answer.ensures
 
 pub returns-in-Ok-write_whole-clause-completes : goal.returns-in-Ok-write_whole-clause-completes

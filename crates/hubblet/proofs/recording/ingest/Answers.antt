@@ -1,9 +1,8 @@
 use Rattle.std.proofs.Common.{◌≡◌, ◌<◌, ◌∙◌, length, refl, sym, ap, subst, arith, rules}
 use Rattle.std.proofs.lemmas.Result.{err_from_is_err_and}
 use Rattle.hb_listring.specs.Log.{Kept}
-use Rattle.hubblet.specs.Recording.{IsOtherForm}
-use Rattle.hubblet.specs.Ingest.{IsOtherMessage, TakesMessage}
-use Rattle.hubblet.proofs.Ingested.{HasIngested, ingested_none, ingested_other, ingested_message, other_rest, other_message, untaken_weaker, written_with, frame_size, starts_message}
+use Rattle.hubblet.specs.Ingest.{TakesMessage}
+use Rattle.hubblet.proofs.Ingested.{HasIngested, ingested_none, ingested_other, ingested_message, bad_rest, untaken_message, written_with, frame_size, starts_message}
 use Rattle.hubblet.proofs.recording.ingest.Goals.{then-frame-eq-MESSAGE+in_ok-take_message, else-frame-eq-MESSAGE}
 use Rattle.hubblet.proofs.recording.ingest.Goals as goal
 
@@ -18,16 +17,15 @@ loop-rest-init c = record {
 pub returns-in_default-clause-err : goal.returns-in_default-clause-err
 returns-in_default-clause-err c =
     let some : 0 < length c.loop-rest.rest.now = search rules in
-    other_rest c.args.file.now c.loop-rest.rest.now c.loop-rest.ring c.loop-rest.invariant.has some c.in_default.ensures
+    bad_rest c.args.file.now c.loop-rest.rest.now _ c.loop-rest.ring c.loop-rest.invariant.has refl some c.in_default.ensures
 
 pub returns-in_err-take_message-clause-err : goal.returns-in_err-take_message-clause-err
 returns-in_err-take_message-clause-err c =
     let p = err_from_is_err_and c.from_residual.result c.from_residual.ensures.1 in
     let kind : c.in-Some.frame.kind ≡ 0 = search rules in
-    let starts = starts_message c.loop-rest.rest.now c.in-Some.frame.body.now c.in-Some.frame.after.now c.in-Some.frame.kind c.in-Some.ensures kind in
-    rw (p.1, p.2) (untaken_weaker c.in_err-take_message.field-0.0 (IsOtherMessage c.in-Some.frame.body.now) (IsOtherForm c.args.file.now)
-    (other_message c.args.file.now c.loop-rest.rest.now c.in-Some.frame.body.now c.in-Some.frame.after.now c.loop-rest.ring c.loop-rest.invariant.has starts)
-    c.in_err-take_message.ensures.err)
+    let next = starts_message c.loop-rest.rest.now c.in-Some.frame.body.now c.in-Some.frame.after.now c.in-Some.frame.kind c.in-Some.ensures kind in
+    rw (p.1, p.2) (untaken_message c.args.file.now c.loop-rest.rest.now c.in-Some.frame.body.now c.in-Some.frame.after.now _ c.loop-rest.ring c.in_err-take_message.field-0.0
+    c.loop-rest.invariant.has refl next c.in_err-take_message.ensures.err)
 
 pub loop-rest-preserved : goal.loop-rest-preserved
 loop-rest-preserved c =
@@ -44,7 +42,7 @@ loop-rest-preserved c =
           let starts = starts_message rest body after c.in-Some.frame.kind c.in-Some.ensures w.if-frame-eq-MESSAGE.true in record {
             capacity = ap (λ (r : Kept). r.capacity) w.ring-is ∙ w.take_message.ensures.limits.0 ∙ c.loop-rest.invariant.capacity;
             slot = ap (λ (r : Kept). r.slot) w.ring-is ∙ w.take_message.ensures.limits.1 ∙ c.loop-rest.invariant.slot;
-            room = omega (arith, c.loop-rest.invariant.room, size, ap (λ (r : Kept). r.written) w.ring-is, written_with old new body has.responses takes has.logs);
+            room = omega (arith, c.loop-rest.invariant.room, size, ap (λ (r : Kept). r.written) w.ring-is, written_with file rest body old new has takes);
             has = subst (HasIngested file after) (sym w.ring-is) (ingested_message file rest body after old new has starts takes);
           }
       | else-frame-eq-MESSAGE w ↦ record {

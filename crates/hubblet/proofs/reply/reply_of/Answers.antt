@@ -21,7 +21,8 @@ loop-position-preserved c =
     let named = c.loop-position.invariant.name in
     let appended : c.put_answer.new.frames.items ≡ c.loop-position.frames.items ++ answer_frame name flow =
     rw named at c.in_ok-put_answer-in-Some.ensures.ok in record {
-      name = c.put_answer.ensures.name ∙ named;
+      name = c.put_answer.ensures.lends.0 ∙ named;
+      known = c.put_answer.ensures.lends.1 ∙ c.loop-position.invariant.known;
       frames = λ log logs.
           let found = c.in-Some.ensures.found (map record_bytes log) logs.stands in
           let from : window_start (length log) 4095 ≤ c.loop-position.position =

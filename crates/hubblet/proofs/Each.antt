@@ -1,0 +1,98 @@
+-- Each file is a recording, or bad at a place, or of another form.
+use Rattle.std.proofs.Common.{◌≡◌, ◌⊎◌, inl, inr, ℕ, zero, suc, ◌≤◌, List, [], ◌∷◌, ◌++◌, length, map, Option, Some, None, refl, sym, ap, subst, ◌∙◌, arith}
+use Rattle.std.specs.Prelude.{IfSome, IsSome}
+use Rattle.std.specs.List.{flat_map}
+use Rattle.std.proofs.Math.Dec.{eqb-suc-zero}
+use Rattle.std.proofs.lemmas.Bool.{cases_lt}
+use Rattle.hb_wire.specs.Varint.{AreBytes}
+use Rattle.hb_flow.specs.Faults.{response_fault}
+use Rattle.hb_flow.specs.Messages.{read_response, response_bytes, record_bytes}
+use Rattle.hb_flow.specs.declared.fault.DecodeFault.{DecodeFault}
+use Rattle.hb_flow.specs.declared.flow.Flow.{Flow}
+use Rattle.hb_flow.specs.declared.response.GetFlowsResponse.{GetFlowsResponse}
+use Rattle.hubblet.specs.Frames.{Frame, StartsFrame, StartsNoFrame, frame_bytes, message_frame, messages}
+use Rattle.hubblet.specs.Recording.{IsSound, IsBad, other_events, IsTaken, IsOther, TakesFrames, Recorded, IsBadFront, IsBadRecord, IsOtherForm}
+use Rattle.hubblet.proofs.Canonical.{rest_bytes}
+use Rattle.hubblet.proofs.Cuts.{starts_or_not}
+use Rattle.hubblet.proofs.Ingested.{frame_size, starts_message}
+use Rattle.hubblet.proofs.Recorded.{TakenFrame, takes_more, all_recorded}
+
+-- ---- a message is taken, or bad, or of another form
+
+abbrev Told : List ℕ → Type 0
+Told message = IsTaken message ⊎ (IsBad message ⊎ IsOther message)
+
+-- by the record of its flow
+told_by_flow : (message : List ℕ) (flow : Option Flow) → (read_response message).flow ≡ flow → IsSound message → other_events message ≡ [] → Told message
+told_by_flow message None is sound none = inl (record { sound = sound; no_other = none; kept = subst (λ (o : Option Flow). IfSome o (λ f. length (record_bytes f) ≤ 8192)) (sym is) tt })
+told_by_flow message (Some f) is sound none =
+    elim (cases_lt 8192 (length (record_bytes f))) [
+      | inl long ↦ inr (inr (record { sound = sound; other = inr (λ kept. let short : length (record_bytes f) ≤ 8192 = subst (λ (o : Option Flow). IfSome o (λ f. length (record_bytes f) ≤ 8192)) is kept in omega (arith, short, long)) }))
+      | inr short ↦ inl (record { sound = sound; no_other = none; kept = subst (λ (o : Option Flow). IfSome o (λ f. length (record_bytes f) ≤ 8192)) (sym is) short })
+    ]
+
+-- by its other events
+told_by_events : (message : List ℕ) (events : List (List ℕ)) → other_events message ≡ events → IsSound message → Told message
+told_by_events message [] is sound = told_by_flow message (read_response message).flow refl sound is
+told_by_events message (e ∷ events) is sound = inr (inr (record { sound = sound; other = inl (λ none. omega (arith, ap length (sym is ∙ none))) }))
+
+-- by its fault, and its length when it is spelled anew
+told_by_fault : (message : List ℕ) (fault : Option DecodeFault) → response_fault message ≡ fault → Told message
+told_by_fault message (Some fault) is = inr (inl (inl (subst (λ (o : Option DecodeFault). IsSome o) (sym is) refl)))
+told_by_fault message None is =
+    elim (cases_lt 65536 (length (response_bytes (read_response message)))) [
+      | inl long ↦ inr (inl (inr long))
+      | inr short ↦ told_by_events message (other_events message) refl (record { no_fault = is; short = short })
+    ]
+
+-- ---- a file
+
+abbrev pub Each : List ℕ → Type 0
+Each file = ((rs : List GetFlowsResponse) × Recorded file rs) ⊎ (((at : ℕ) × IsBadRecord file at) ⊎ IsOtherForm file)
+
+-- a rest that begins with no whole frame, or with a message that is not taken
+bad_at : (file : List ℕ) (frames : List Frame) (rest : List ℕ) → TakesFrames file frames rest → IsBadFront rest → Each file
+bad_at file frames rest before bad = inr (inl (length (flat_map frame_bytes frames), record { frames = frames; rest = rest; before = before; place = refl; bad = bad }))
+
+-- a frame is taken, or is a message that is not
+frame_told : (kind : ℕ) (body : List ℕ) → TakenFrame (record { kind = kind; body = body }) ⊎ ((kind ≡ 0) × (IsBad body ⊎ IsOther body))
+frame_told zero body =
+    elim (told_by_fault body (response_fault body) refl) [
+      | inl taken ↦ inl taken
+      | inr other ↦ inr (refl, other)
+    ]
+frame_told (suc k) body = inl (rw (eqb-suc-zero k) tt)
+
+-- a message that is not taken
+untaken_at : (file : List ℕ) (frames : List Frame) (rest message after : List ℕ) → TakesFrames file frames rest → StartsFrame rest (message_frame message) after → IsBad message ⊎ IsOther message
+    → Each file
+untaken_at file frames rest message after before next (inl bad) = bad_at file frames rest before (inr (message, after, next, bad))
+untaken_at file frames rest message after before next (inr other) = inr (inr (record { frames = frames; rest = rest; before = before; message = message; after = after; next = next; other = other }))
+
+-- a rest that begins with no frame
+rest_ends : (file : List ℕ) (frames : List Frame) (rest : List ℕ) → TakesFrames file frames rest → StartsNoFrame rest → Each file
+rest_ends file frames rest before none =
+    elim (cases_lt 0 (length rest)) [
+      | inl some ↦ bad_at file frames rest before (inl (some, none))
+      | inr empty ↦ inl (map read_response (messages frames), all_recorded file rest frames before (omega (arith, empty)))
+    ]
+
+-- the rest, a frame at a time
+each_from : (most : ℕ) (file : List ℕ) (frames : List Frame) (rest : List ℕ) → length rest ≤ most → AreBytes rest → TakesFrames file frames rest → Each file
+each_from zero file frames rest fits are before = inl (map read_response (messages frames), all_recorded file rest frames before (omega (arith, fits)))
+each_from (suc most) file frames rest fits are before =
+    elim (starts_or_not rest are) [
+      | inl begun ↦
+          let f = begun.0 in
+          let after = begun.1 in
+          let next = begun.2 in
+          let bytes : AreBytes after = rest_bytes (frame_bytes f) after (subst AreBytes next.whole are) in
+          elim (frame_told f.kind f.body) [
+            | inl taken ↦ each_from most file (frames ++ f ∷ []) after (omega (arith, fits, frame_size rest f.body after f.kind next)) bytes (takes_more file rest after f frames before next taken)
+            | inr untaken ↦ untaken_at file frames rest f.body after before (starts_message rest f.body after f.kind next untaken.0) untaken.1
+          ]
+      | inr none ↦ rest_ends file frames rest before none
+    ]
+
+pub each_file : (file : List ℕ) → AreBytes file → Each file
+each_file file are = each_from (length file) file [] file (omega arith) are (record { starts = record { fit = tt; whole = refl }; taken = tt })
