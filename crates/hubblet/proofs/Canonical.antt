@@ -3,16 +3,16 @@ use Rattle.std.proofs.Common.{◌≡◌, ℕ, ◌<◌, ◌≤◌, ◌^◌, Bool,
 use Rattle.std.specs.Prelude.{IfSome, if◌then◌else◌, ◌==◌}
 use Rattle.std.specs.Int.{w32, to_be_bytes}
 use Rattle.std.specs.List.{AllByRecursion, cons_option, flat_map}
-use Rattle.std.proofs.lemmas.List.{append-nil, take_at, drop_at}
+use Rattle.std.proofs.lemmas.List.{append-nil, take_at}
 use Rattle.hb_wire.specs.Varint.{AreBytes}
-use Rattle.hb_wire.proofs.FieldLemmas.{AreBytes_drop, AreBytes_take}
+use Rattle.hb_wire.proofs.FieldLemmas.{AreBytes_take}
 use Rattle.hb_flow.specs.Messages.{read_response, response_bytes, record_bytes, ResponseFits}
 use Rattle.hb_flow.specs.declared.response.GetFlowsResponse.{GetFlowsResponse}
 use Rattle.hb_flow.proofs.Again.{response_again, response_clean}
 use Rattle.hb_flow.proofs.Fitting.{response_fits}
 use Rattle.hubblet.specs.Frames.{Frame, IsFrame, frame_bytes, message_frame, message_in, messages}
 use Rattle.hubblet.specs.Recording.{IsTaken, Recorded, canonical}
-use Rattle.hubblet.proofs.Cuts.{nothing_starts, frames_after}
+use Rattle.hubblet.proofs.Cuts.{nothing_starts, frames_after, rest_bytes}
 use Rattle.hubblet.proofs.OtherEvents.{others_kept, others_again}
 
 -- ---- a message and the canonical spelling of its answer
@@ -46,9 +46,6 @@ taken_again message are taken =
 
 front_bytes : (xs ys : List ℕ) → AreBytes (xs ++ ys) → AreBytes xs
 front_bytes xs ys are = subst AreBytes (take_at xs ys (length xs) refl) (AreBytes_take (length xs) (xs ++ ys) are)
-
-pub rest_bytes : (xs ys : List ℕ) → AreBytes (xs ++ ys) → AreBytes ys
-rest_bytes xs ys are = subst AreBytes (drop_at xs ys (length xs) refl) (AreBytes_drop (length xs) (xs ++ ys) are)
 
 message_with : (o : Option (List ℕ)) (ms : List (List ℕ)) → IfSome o AreBytes → AllByRecursion AreBytes ms → AllByRecursion AreBytes (cons_option o ms)
 message_with None ms p q = q

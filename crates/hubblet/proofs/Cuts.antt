@@ -1,9 +1,9 @@
 -- Bytes are cut into frames in one way.
-use Rattle.std.proofs.Common.{◌≡◌, ◌⊎◌, inl, inr, ℕ, ◌<◌, ◌≤◌, ◌^◌, List, [], ◌∷◌, ◌++◌, length, take, drop, get_or, append_assoc, refl, sym, ap, ◌∙◌, arith, length-append}
+use Rattle.std.proofs.Common.{◌≡◌, ◌⊎◌, inl, inr, ℕ, zero, suc, ◌<◌, ◌≤◌, ◌^◌, List, [], ◌∷◌, ◌++◌, length, take, drop, get_or, append_assoc, refl, sym, ap, subst, ◌∙◌, arith, length-append}
 use Rattle.std.specs.Int.{w32, to_be_bytes, from_be_bytes}
 use Rattle.std.specs.List.{flat_map, AllByRecursion}
 use Rattle.std.proofs.Math.Seq.{take-append_seam, drop-append_seam}
-use Rattle.std.proofs.lemmas.List.{append-nil, length-take, take-append-drop}
+use Rattle.std.proofs.lemmas.List.{append-nil, length-take, take-append-drop, drop_at}
 use Rattle.std.proofs.lemmas.List.Concat.{flat_map-append}
 use Rattle.std.proofs.lemmas.Nat.{from_be_bytes-to_be_bytes_4, be_bytes_4}
 use Rattle.std.proofs.lemmas.Bool.{cases_lt}
@@ -148,3 +148,34 @@ starts_or_not (k ∷ a ∷ []) are = inr (λ f after starts. omega (arith, frame
 starts_or_not (k ∷ a ∷ b ∷ []) are = inr (λ f after starts. omega (arith, frame_long _ after f starts))
 starts_or_not (k ∷ a ∷ b ∷ c ∷ []) are = inr (λ f after starts. omega (arith, frame_long _ after f starts))
 starts_or_not (k ∷ a ∷ b ∷ c ∷ d ∷ rest) are = head_decides k a b c d rest are
+
+-- ---- each list of bytes has a cut
+
+pub rest_bytes : (xs ys : List ℕ) → AreBytes (xs ++ ys) → AreBytes ys
+rest_bytes xs ys are = subst AreBytes (drop_at xs ys (length xs) refl) (AreBytes_drop (length xs) (xs ++ ys) are)
+
+-- a frame before those of a cut
+cut_with : (bytes after : List ℕ) (f : Frame) (frames : List Frame) (rest : List ℕ) → StartsFrame bytes f after → IsCut after frames rest → IsCut bytes (f ∷ frames) rest
+cut_with bytes after f frames rest next cut = record {
+  starts = record {
+    fit = (next.fits, cut.starts.fit);
+    whole = next.whole ∙ ap (λ (bs : List ℕ). frame_bytes f ++ bs) cut.starts.whole ∙ sym (frames_after f frames rest);
+  };
+  longest = cut.longest;
+}
+
+cut_of : (most : ℕ) (bytes : List ℕ) → length bytes ≤ most → AreBytes bytes → (frames : List Frame) × (rest : List ℕ) × IsCut bytes frames rest
+cut_of zero bytes room are = ([], bytes, record { starts = record { fit = tt; whole = refl }; longest = λ f after next. omega (arith, frame_long bytes after f next, room) })
+cut_of (suc most) bytes room are =
+    elim (starts_or_not bytes are) [
+      | inl begun ↦
+          let f = begun.0 in
+          let after = begun.1 in
+          let shorter : length after ≤ most = omega (arith, room, ap length begun.2.whole, length-append (frame_bytes f) after) in
+          let cut = cut_of most after shorter (rest_bytes (frame_bytes f) after (subst AreBytes begun.2.whole are)) in
+          (f ∷ cut.0, cut.1, cut_with bytes after f cut.0 cut.1 begun.2 cut.2)
+      | inr none ↦ ([], bytes, record { starts = record { fit = tt; whole = refl }; longest = none })
+    ]
+
+pub cut_each : (bytes : List ℕ) → AreBytes bytes → (frames : List Frame) × (rest : List ℕ) × IsCut bytes frames rest
+cut_each bytes are = cut_of (length bytes) bytes (omega arith) are

@@ -12,8 +12,7 @@ use Rattle.hb_flow.specs.declared.flow.Flow.{Flow}
 use Rattle.hb_flow.specs.declared.response.GetFlowsResponse.{GetFlowsResponse}
 use Rattle.hubblet.specs.Frames.{Frame, StartsFrame, StartsNoFrame, frame_bytes, message_frame, messages}
 use Rattle.hubblet.specs.Recording.{IsSound, IsBad, other_events, IsTaken, IsOther, TakesFrames, Recorded, IsBadFront, IsBadRecord, IsOtherForm}
-use Rattle.hubblet.proofs.Canonical.{rest_bytes}
-use Rattle.hubblet.proofs.Cuts.{starts_or_not}
+use Rattle.hubblet.proofs.Cuts.{rest_bytes, starts_or_not}
 use Rattle.hubblet.proofs.Ingested.{frame_size, starts_message}
 use Rattle.hubblet.proofs.Recorded.{TakenFrame, takes_more, all_recorded}
 

@@ -5,8 +5,10 @@ ghost use Rattle.hb_flow.specs.declared.response.GetFlowsResponse.{GetFlowsRespo
 ghost use Rattle.hubblet.specs.Frames.{Frame, IsCut};
 ghost use Rattle.hubblet.specs.Recording.{Recorded, IsBadRecord, IsOtherForm, canonical};
 
-/// Bytes are cut into frames in one way.
+/// Bytes are cut into frames in one way, and only one.
 pub fn one_cut()
+    ensures each { (bytes : List ℕ) → AreBytes bytes
+        → (frames : List Frame) × (rest : List ℕ) × IsCut bytes frames rest }
     ensures one { (bytes x y : List ℕ) (fs gs : List Frame) → IsCut bytes fs x → IsCut bytes gs y
         → (fs ≡ gs) × (x ≡ y) }
 {}
