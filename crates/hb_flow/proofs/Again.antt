@@ -180,36 +180,36 @@ stamp_there_clean number (Some s) fits near = λ place. stamp_clean s place fits
 
 -- ---- a flow
 
-abbrev fields_in : Flow → List Piece
-fields_in f = flow_fields (option_map stamp_bytes f.time) (of_signed f.verdict) f.uuid
+abbrev fields_of_flow : Flow → List Piece
+fields_of_flow f = flow_fields (option_map stamp_bytes f.time) (of_signed f.verdict) f.uuid
 
-flow_fields_fit : (f : Flow) → FlowFits f → length (flow_bytes f) < 2 ^ 64 → AllByRecursion PieceFits (fields_in f)
+flow_fields_fit : (f : Flow) → FlowFits f → length (flow_bytes f) < 2 ^ 64 → AllByRecursion PieceFits (fields_of_flow f)
 unfolding flow_bytes
 flow_fields_fit f fits short = fits_within _ (all_append NearlyFits (message_field 1 (option_map stamp_bytes f.time) ++ number_field 2 (of_signed f.verdict)) (text_field 34 f.uuid)
     (all_append NearlyFits (message_field 1 (option_map stamp_bytes f.time)) (number_field 2 (of_signed f.verdict))
     (message_nearly 1 (option_map stamp_bytes f.time) (omega arith) (omega arith))
     (number_nearly 2 (of_signed f.verdict) (omega arith) (omega arith) (of_signed_fits f.verdict (widened f.verdict fits.verdict))))
-    (text_nearly 34 f.uuid (omega arith) (omega arith))) (omega (arith, short, length-append (spelling (fields_in f)) f.unknown))
+    (text_nearly 34 f.uuid (omega arith) (omega arith))) (omega (arith, short, length-append (spelling (fields_of_flow f)) f.unknown))
 
--- what holds of the fields of three parts holds of each part
-parts_of : {A : Type 0} (P : A → Type 0) (xs ys : List A) → AllByRecursion P (xs ++ ys) → AllByRecursion P xs × AllByRecursion P ys
-parts_of P [] ys all = (tt, all)
-parts_of P (x ∷ xs) ys all = let rest = parts_of P xs ys all.1 in ((all.0, rest.0), rest.1)
+-- what holds of all the items of two lists holds of those of each
+all_apart : {A : Type 0} (P : A → Type 0) (xs ys : List A) → AllByRecursion P (xs ++ ys) → AllByRecursion P xs × AllByRecursion P ys
+all_apart P [] ys all = (tt, all)
+all_apart P (x ∷ xs) ys all = let rest = all_apart P xs ys all.1 in ((all.0, rest.0), rest.1)
 
-first_part : {A : Type 0} (P : A → Type 0) (xs ys zs : List A) → AllByRecursion P (xs ++ ys ++ zs) → AllByRecursion P xs
-first_part P xs ys zs all = (parts_of P xs ys (parts_of P (xs ++ ys) zs all).0).0
+all_first : {A : Type 0} (P : A → Type 0) (xs ys zs : List A) → AllByRecursion P (xs ++ ys ++ zs) → AllByRecursion P xs
+all_first P xs ys zs all = (all_apart P xs ys (all_apart P (xs ++ ys) zs all).0).0
 
 pub flow_again : (f : Flow) → FlowFits f → length (flow_bytes f) < 2 ^ 64 → read_flow (flow_bytes f) ≡ f
 unfolding read_flow flow_bytes
 flow_again f fits short =
-    let fs = fields_in f in
+    let fs = fields_of_flow f in
     let us = fits.unknown.parts in
     let not = fits.unknown.not_known in
     let fit = flow_fields_fit f fits short in
     let ps = parts (spelling fs ++ f.unknown) in
     let are : ps ≡ map canonical fs ++ us = parts_again flow_row fs f.unknown fits.unknown fit in
     let picks = picks_flow (option_map stamp_bytes f.time) (of_signed f.verdict) f.uuid in
-    let inside = first_part PieceFits (message_field 1 (option_map stamp_bytes f.time)) (number_field 2 (of_signed f.verdict)) (text_field 34 f.uuid) fit in
+    let inside = all_first PieceFits (message_field 1 (option_map stamp_bytes f.time)) (number_field 2 (of_signed f.verdict)) (text_field 34 f.uuid) fit in
     let time : option_map read_stamp (joined (bodies 1 ps)) ≡ f.time =
     ap (λ (qs : List Part). option_map read_stamp (joined (bodies 1 qs))) are
     ∙ ap (λ (bs : List (List ℕ)). option_map read_stamp (joined bs)) (bodies_first flow_row 1 (λ body. refl) (map canonical fs) us not)
@@ -230,8 +230,8 @@ flow_clean f place fits short =
     let time = message_field 1 (option_map stamp_bytes f.time) in
     let verdict = number_field 2 (of_signed f.verdict) in
     let uuid = text_field 34 f.uuid in
-    let inside = first_part PieceFits time verdict uuid fit in
-    no_fault_again flow_row (fields_in f) f.unknown fits.unknown fit flow_check place
+    let inside = all_first PieceFits time verdict uuid fit in
+    no_fault_again flow_row (fields_of_flow f) f.unknown fits.unknown fit flow_check place
     (clean_both flow_check (time ++ verdict) uuid
     (clean_both flow_check time verdict
     (clean_message flow_check 1 (option_map stamp_bytes f.time) (stamp_there_clean 1 f.time fits.time inside))
@@ -250,29 +250,29 @@ flow_there_clean : (flow : Option Flow) → IfSome flow FlowFits → AllByRecurs
 flow_there_clean None fits near = tt
 flow_there_clean (Some f) fits near = λ place. flow_clean f place fits (body_short 1 (flow_bytes f) near)
 
-abbrev fields_of : GetFlowsResponse → List Piece
-fields_of r = response_fields (option_map flow_bytes r.flow) r.node_name (option_map stamp_bytes r.time)
+abbrev fields_of_response : GetFlowsResponse → List Piece
+fields_of_response r = response_fields (option_map flow_bytes r.flow) r.node_name (option_map stamp_bytes r.time)
 
-response_fields_fit : (r : GetFlowsResponse) → ResponseFits r → length (response_bytes r) < 2 ^ 64 → AllByRecursion PieceFits (fields_of r)
+response_fields_fit : (r : GetFlowsResponse) → ResponseFits r → length (response_bytes r) < 2 ^ 64 → AllByRecursion PieceFits (fields_of_response r)
 unfolding response_bytes
 response_fields_fit r fits short = fits_within _ (all_append NearlyFits (message_field 1 (option_map flow_bytes r.flow) ++ text_field 1000 r.node_name) (message_field 1001 (option_map stamp_bytes r.time))
     (all_append NearlyFits (message_field 1 (option_map flow_bytes r.flow)) (text_field 1000 r.node_name)
     (message_nearly 1 (option_map flow_bytes r.flow) (omega arith) (omega arith))
     (text_nearly 1000 r.node_name (omega arith) (omega arith)))
-    (message_nearly 1001 (option_map stamp_bytes r.time) (omega arith) (omega arith))) (omega (arith, short, length-append (spelling (fields_of r)) r.unknown))
+    (message_nearly 1001 (option_map stamp_bytes r.time) (omega arith) (omega arith))) (omega (arith, short, length-append (spelling (fields_of_response r)) r.unknown))
 
 pub response_again : (r : GetFlowsResponse) → ResponseFits r → length (response_bytes r) < 2 ^ 64 → read_response (response_bytes r) ≡ r
 unfolding read_response response_bytes
 response_again r fits short =
-    let fs = fields_of r in
+    let fs = fields_of_response r in
     let us = fits.unknown.parts in
     let not = fits.unknown.not_known in
     let fit = response_fields_fit r fits short in
     let ps = parts (spelling fs ++ r.unknown) in
     let are : ps ≡ map canonical fs ++ us = parts_again response_row fs r.unknown fits.unknown fit in
     let picks = picks_response (option_map flow_bytes r.flow) r.node_name (option_map stamp_bytes r.time) in
-    let front = parts_of PieceFits (message_field 1 (option_map flow_bytes r.flow) ++ text_field 1000 r.node_name) (message_field 1001 (option_map stamp_bytes r.time)) fit in
-    let first = parts_of PieceFits (message_field 1 (option_map flow_bytes r.flow)) (text_field 1000 r.node_name) front.0 in
+    let front = all_apart PieceFits (message_field 1 (option_map flow_bytes r.flow) ++ text_field 1000 r.node_name) (message_field 1001 (option_map stamp_bytes r.time)) fit in
+    let first = all_apart PieceFits (message_field 1 (option_map flow_bytes r.flow)) (text_field 1000 r.node_name) front.0 in
     let flow : option_map read_flow (joined (bodies 1 ps)) ≡ r.flow =
     ap (λ (qs : List Part). option_map read_flow (joined (bodies 1 qs))) are
     ∙ ap (λ (bs : List (List ℕ)). option_map read_flow (joined bs)) (bodies_first response_row 1 (λ body. refl) (map canonical fs) us not)
@@ -293,9 +293,9 @@ response_clean r fits short =
     let flow = message_field 1 (option_map flow_bytes r.flow) in
     let name = text_field 1000 r.node_name in
     let time = message_field 1001 (option_map stamp_bytes r.time) in
-    let front = parts_of PieceFits (flow ++ name) time fit in
-    let first = parts_of PieceFits flow name front.0 in
-    no_fault_again response_row (fields_of r) r.unknown fits.unknown fit response_check 0
+    let front = all_apart PieceFits (flow ++ name) time fit in
+    let first = all_apart PieceFits flow name front.0 in
+    no_fault_again response_row (fields_of_response r) r.unknown fits.unknown fit response_check 0
     (clean_both response_check (flow ++ name) time
     (clean_both response_check flow name
     (clean_message response_check 1 (option_map flow_bytes r.flow) (flow_there_clean r.flow fits.flow first.0))
@@ -319,7 +319,7 @@ known_text number (b ∷ text) known = (known (b ∷ text), tt)
 known_both : (xs ys : List Piece) → AllKnown xs → AllKnown ys → AllKnown (xs ++ ys)
 known_both xs ys p q = subst (AllByRecursion (λ (p : Part). knows response_row p.field ≡ true)) (sym (map-append canonical xs ys)) (all_append _ (map canonical xs) (map canonical ys) p q)
 
-all_known : (r : GetFlowsResponse) → AllKnown (fields_of r)
+all_known : (r : GetFlowsResponse) → AllKnown (fields_of_response r)
 all_known r =
     let flow = message_field 1 (option_map flow_bytes r.flow) in
     let name = text_field 1000 r.node_name in
@@ -332,6 +332,6 @@ pub picked_again : {A : Type 0} (pick : Part → Option A) (r : GetFlowsResponse
 unfolding response_bytes
 picked_again pick r none fits short =
     let us = fits.unknown.parts in
-    ap (filter_map pick) (parts_again response_row (fields_of r) r.unknown fits.unknown (response_fields_fit r fits short))
-    ∙ picked_last pick response_row none (map canonical (fields_of r)) us (all_known r)
+    ap (filter_map pick) (parts_again response_row (fields_of_response r) r.unknown fits.unknown (response_fields_fit r fits short))
+    ∙ picked_last pick response_row none (map canonical (fields_of_response r)) us (all_known r)
     ∙ ap (filter_map pick) (sym (ap parts fits.unknown.whole ∙ spelled_divide us fits.unknown.spelled))

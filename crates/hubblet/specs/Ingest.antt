@@ -33,7 +33,7 @@ pub record IsAnswered (file frames : List ℕ) : Type 0 where
   pub recorded : Recorded file responses
   pub frames_are : frames ≡ output responses
 
--- the message is taken, and the ring has the record of its flow more, where it has one
+-- the message is taken, and the ring has one record more, that of its flow, where it holds one
 pub record TakesMessage (message : List ℕ) (old new : Kept) : Type 0 where
   pub taken : IsTaken message
   pub logs : (log : List Flow) → Logs old log → Logs new (log ++ flows (read_response message ∷ []))
