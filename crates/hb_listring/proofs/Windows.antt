@@ -4,12 +4,16 @@ use Rattle.std.proofs.lemmas.List.{drop-map, length-map, length-drop, take_more}
 use Rattle.std.proofs.lemmas.Option.{get_or_from_slice_get, slice_get_within}
 use Rattle.circular_buffer.specs.Buffer.{keep_last}
 use Rattle.circular_buffer.proofs.Places.{slice_get-drop}
-use Rattle.hb_listring.specs.Log.{Kept, StandsFor, IsHeld, window_start, window}
+use Rattle.hb_look.specs.Looks.{Found, Got, Gone, NotYet}
+use Rattle.hb_look.specs.Answers.{IsFoundAt}
+use Rattle.hb_listring.specs.Log.{window_start, window}
 
--- each position of the window of the last `cap` records is held by a ring of that capacity
-pub window_held : (ring : Kept) (log : List (List ℕ)) (position : ℕ) → StandsFor ring log
-    → window_start (length log) ring.capacity ≤ position → position < length log → IsHeld ring position
-window_held ring log position stands from below = (omega arith, omega arith)
+-- a look at a position of the window of the last `cap` records finds a record
+pub window_held : (log : List (List ℕ)) (cap position : ℕ) (found : Found) → IsFoundAt log cap position found
+    → window_start (length log) cap ≤ position → position < length log → (bytes : List ℕ) × (found ≡ Got bytes)
+window_held log cap position (Got bytes) here from below = (bytes, refl)
+window_held log cap position (Gone next) here from below = absurd (omega (arith, here.0))
+window_held log cap position NotYet here from below = absurd (omega (arith, here))
 
 -- the window of a log that was mapped is the mapped window
 pub window_map : {A B : Type 0} (f : A → B) (cap : ℕ) (log : List A) → window cap (map f log) ≡ map f (window cap log)

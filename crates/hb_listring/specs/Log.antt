@@ -1,5 +1,5 @@
 -- A log of records, and the part of it that a ring holds.
-use Rattle.std.specs.Prelude.{◌≡◌, ℕ, ◌+◌, ◌-◌, ◌%◌, ◌^◌, ◌<◌, ◌≤◌, List, length, drop, min}
+use Rattle.std.specs.Prelude.{◌≡◌, ℕ, ◌+◌, ◌-◌, ◌%◌, ◌^◌, ◌≤◌, List, length, drop, min}
 use Rattle.circular_buffer.specs.Buffer.{keep_last}
 
 -- what a ring has: its limits, how many records were ever put, and the last of them
@@ -12,10 +12,6 @@ pub record Kept : Type 0 where
 -- The log is the list of all records that were put into the ring, in order. A record's position is its index in it.
 abbrev pub StandsFor : Kept → List (List ℕ) → Type 0
 StandsFor ring log = (ring.written ≡ length log) × (ring.records ≡ keep_last (ring.capacity + 1) log)
-
--- the position is one of the last capacity + 1 that were written
-abbrev pub IsHeld : Kept → ℕ → Type 0
-IsHeld ring position = (position < ring.written) × (ring.written ≤ position + ring.capacity + 1)
 
 -- a capacity that a ring may have: 1, 3, 7, and so on up to 65,535
 abbrev pub IsCapacity : ℕ → Type 0

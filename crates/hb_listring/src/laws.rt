@@ -1,12 +1,14 @@
 //! Laws of the window, for the crates above.
 ghost use Rattle.std.specs.Prelude.{◌≡◌, ℕ, ◌<◌, ◌≤◌, List, length, map};
-ghost use Rattle.hb_listring.specs.Log.{Kept, StandsFor, IsHeld, window_start, window};
+ghost use Rattle.hb_look.specs.Looks.{Found, Got};
+ghost use Rattle.hb_look.specs.Answers.{IsFoundAt};
+ghost use Rattle.hb_listring.specs.Log.{window_start, window};
 
-/// `get` answers `Some` at each position of the window of the last `cap` records.
+/// A look at a position of the window of the last `cap` records finds a record.
 pub fn window_is_held()
-    ensures held { (ring : Kept) (log : List (List ℕ)) (position : ℕ) → StandsFor ring log
-        → window_start (length log) ring.capacity ≤ position → position < length log
-        → IsHeld ring position }
+    ensures held { (log : List (List ℕ)) (cap position : ℕ) (found : Found)
+        → IsFoundAt log cap position found → window_start (length log) cap ≤ position
+        → position < length log → (bytes : List ℕ) × (found ≡ Got bytes) }
 {}
 
 /// The window of a log that was mapped is the mapped window.

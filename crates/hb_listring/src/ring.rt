@@ -1,11 +1,12 @@
 //! `ListRing`: the last records of a log, by their positions.
-ghost use Rattle.std.specs.Prelude.{◌≡◌, ◌≢◌, ℕ, ◌+◌, ◌^◌, ◌<◌, ◌≤◌, ◌↔◌, List, [], ◌∷◌, ◌++◌, length, slice_get, Some, IfOk, IfSome, IsSome};
-ghost use Rattle.hb_listring.specs.Log.{IsCapacity, IsSlot, IsHeld, StandsFor};
+ghost use Rattle.std.specs.Prelude.{◌≡◌, ◌≢◌, ◌↔◌, ℕ, ◌+◌, ◌^◌, ◌<◌, ◌≤◌, List, [], ◌∷◌, ◌++◌, length, IfOk};
+ghost use Rattle.hb_listring.specs.Log.{IsCapacity, IsSlot, StandsFor};
+ghost use Rattle.hb_listring.specs.Places.{IsFoundIn};
+ghost use Rattle.hb_listring.specs.Found.{found_in};
 
-use crate::no_memory::NoMemory;
-use crate::put::Put;
 use bytes::Bytes;
 use circular_buffer::HeapCircularBuffer;
+use hb_look::{Keep, NoMemory, Put};
 use std::alloc::Global;
 use std::marker::Model;
 
@@ -24,6 +25,7 @@ pub struct ListRing {
 
 impl Model for ListRing {
     ghost use Rattle.std.specs.Prelude.{◌≡◌, ◌-◌, ◌^◌, ◌≤◌, length, min};
+    ghost use Rattle.std.specs.List.{All};
     ghost use Rattle.hb_listring.specs.Log.{Kept};
 
     ghost Value = { Kept };
@@ -36,8 +38,20 @@ impl Model for ListRing {
     } };
 
     ghost invariant = { λ r. (1 ≤ r.records.capacity) × (r.records.capacity ≤ 2 ^ 16)
-        × (r.written ≤ 2 ^ 62)
-        × (length r.records.items ≡ min r.written r.records.capacity) };
+        × (r.slot_bytes ≤ 65024) × (r.written ≤ 2 ^ 62)
+        × (length r.records.items ≡ min r.written r.records.capacity)
+        × All (λ bytes. length bytes ≤ r.slot_bytes) r.records.items };
+}
+
+/// What a ring has at a position.
+#[derive(Clone, Copy)]
+pub(crate) enum Place<'a> {
+    /// This record.
+    Held(&'a Bytes),
+    /// A record that was overwritten. The first that is held is at this position.
+    Overwritten(u64),
+    /// None yet.
+    Unwritten,
 }
 
 impl ListRing {
@@ -61,15 +75,66 @@ impl ListRing {
         })
     }
 
+    /// How many records were ever put, which is the position of the next one.
+    pub fn written(&self) -> u64
+        ensures written { result ≡ self.now.written }
+        ensures log { (log : List (List ℕ)) → StandsFor self.now log → length log ≡ result }
+        ensures most { result ≤ 2 ^ 62 }
+    {
+        self.written
+    }
+
+    /// How many of the last records it keeps, beside the one that is overwritten next.
+    pub(crate) fn capacity(&self) -> u64
+        ensures capacity { result ≡ self.now.capacity }
+        ensures bounds { (self.now.capacity ≤ 65535) × (self.now.slot ≤ 65024) }
+    {
+        self.records.capacity() as u64 - 1
+    }
+
+    /// What a position has, in place.
+    pub(crate) fn place(&self, position: u64) -> Place<'_>
+        ensures { IsFoundIn self.now position (found_in result) }
+    {
+        if position >= self.written {
+            return Place::Unwritten;
+        }
+        let first = self.written - self.records.len() as u64;
+        if position < first {
+            return Place::Overwritten(first);
+        }
+        match self.records.get((position - first) as usize) {
+            Some(record) => Place::Held(record),
+            None => unreachable!(),
+        }
+    }
+}
+
+impl Keep for ListRing {
+    ghost use Rattle.std.specs.Prelude.{ℕ};
+    ghost use Rattle.std.proofs.Common.{sym};
+    ghost use Rattle.hb_listring.specs.Log.{StandsFor};
+
+    ghost stands_for = { StandsFor };
+
+    ghost written = { λ r. r.written };
+
+    ghost longest = { λ r. r.slot };
+
+    ghost Fixed = { ℕ × ℕ };
+
+    ghost fixed = { λ r. (r.capacity, r.slot) };
+
     /// Puts a copy of the record at the next position. The oldest record makes room for it where
     /// `cap + 1` are held. The cost is that of the copy, whatever was put before.
-    pub fn put(&mut self, bytes: &[u8]) -> Put
+    fn put(&mut self, bytes: &[u8]) -> Put
         ensures done { result ≡ Put.Done → (log : List (List ℕ)) → StandsFor self.old log
             → StandsFor self.new (log ++ bytes.now ∷ []) }
         ensures too_long { (result ≡ Put.TooLong) ↔ (self.old.slot < length bytes.now) }
         ensures spent { (result ≡ Put.Spent)
             ↔ ((length bytes.now ≤ self.old.slot) × (self.old.written ≡ 2 ^ 62)) }
         ensures kept { result ≢ Put.Done → self.new ≡ self.old }
+        ensures written { result ≡ Put.Done → self.new.written ≡ self.old.written + 1 }
         ensures limits { (self.new.capacity ≡ self.old.capacity) × (self.new.slot ≡ self.old.slot) }
     {
         if bytes.len() > self.slot_bytes {
@@ -86,30 +151,5 @@ impl ListRing {
         Put::Done
     }
 
-    /// How many records were ever put, which is the position of the next one.
-    pub fn written(&self) -> u64
-        ensures written { result ≡ self.now.written }
-        ensures log { (log : List (List ℕ)) → StandsFor self.now log → length log ≡ result }
-        ensures most { result ≤ 2 ^ 62 }
-    {
-        self.written
-    }
-
-    /// The record at a position, in place. `None` where it was overwritten or is not written yet.
-    pub fn get(&self, position: u64) -> Option<&[u8]>
-        ensures within { IsSome result ↔ IsHeld self.now position }
-        ensures found { (log : List (List ℕ)) → StandsFor self.now log
-            → IfSome result (λ bytes. slice_get log position ≡ Some bytes.now) }
-    {
-        if position >= self.written {
-            return None;
-        }
-        let held = self.records.len() as u64;
-        let first = self.written - held;
-        if position < first {
-            return None;
-        }
-        let record = self.records.get((position - first) as usize)?;
-        Some(record.as_slice())
-    }
+    ghost counts = { λ ring log stands. sym stands.0 };
 }

@@ -23,7 +23,7 @@ flows_in frames = flows (map read_response (messages frames))
 pub record HasIngested (file rest : List ℕ) (ring : Kept) : Type 0 where
   pub frames : List Frame
   pub before : TakesFrames file frames rest
-  pub logs : Logs ring (flows_in frames)
+  pub logs : Logs (StandsFor ring) (flows_in frames)
 
 -- at the start nothing
 pub ingested_none : (file : List ℕ) (ring : Kept) → StandsFor ring [] → HasIngested file file ring
@@ -59,7 +59,7 @@ ingested_other file rest body after kind ring has next other =
     filter_map-append message_in has.frames (f ∷ []) ∙ ap (λ (ms : List (List ℕ)). messages has.frames ++ ms) (no_message kind body other) ∙ append-nil (messages has.frames) in record {
       frames = has.frames ++ f ∷ [];
       before = takes_more file rest after f has.frames has.before next (other_frame kind body other);
-      logs = subst (λ (ms : List (List ℕ)). Logs ring (flows (map read_response ms))) (sym same) has.logs;
+      logs = subst (λ (ms : List (List ℕ)). Logs (StandsFor ring) (flows (map read_response ms))) (sym same) has.logs;
     }
 
 -- one frame more, whose message is taken
@@ -74,7 +74,7 @@ ingested_message file rest message after old new has next takes =
     ∙ filter_map-append (λ (r : GetFlowsResponse). r.flow) rs (read_response message ∷ []) in record {
       frames = has.frames ++ f ∷ [];
       before = takes_more file rest after f has.frames has.before next takes.taken;
-      logs = subst (Logs new) (sym logged) (takes.logs (flows_in has.frames) has.logs);
+      logs = subst (Logs (StandsFor new)) (sym logged) (takes.logs (flows_in has.frames) has.logs);
     }
 
 -- the ring has one record more at most

@@ -38,6 +38,14 @@ logged_at [] position bytes kept e = absurd cc
 logged_at (f ∷ log) zero bytes kept e = (f, refl, kept.0, cc)
 logged_at (f ∷ log) (suc position) bytes kept e = logged_at log position bytes kept.1 e
 
+-- a flow whose record a log has at a position is the log's
+pub logged_flow : (log : List Flow) (position : ℕ) (bytes : List ℕ) (f : Flow) → AllByRecursion IsKept log → slice_get (map record_bytes log) position ≡ Some bytes
+    → IsKept f → bytes ≡ record_bytes f → (slice_get log position ≡ Some f) × IsKept f
+logged_flow log position bytes f all found kept is =
+    let there = logged_at log position bytes all found in
+    let same : there.0 ≡ f = record_one there.0 f there.2 kept (sym there.3 ∙ is) in
+    (there.1 ∙ ap Some same, kept)
+
 -- what was read of a record is its flow
 pub kept_is : (bytes : List ℕ) (f g : Flow) → IsKept f → bytes ≡ record_bytes f → Some g ≡ (read_response bytes).flow → IsKept g × (bytes ≡ record_bytes g)
 kept_is bytes f g kept e is =

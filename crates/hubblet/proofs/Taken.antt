@@ -51,11 +51,11 @@ takes_flow message r f old new is sound none holds fits short stands =
         kept = subst (λ (o : Option Flow). IfSome o (λ f. length (record_bytes f) ≤ 8192)) (sym there) short;
       };
       logs = λ log logs.
-          let more : Logs new (log ++ f ∷ []) = record {
+          let more : Logs (StandsFor new) (log ++ f ∷ []) = record {
             stands = subst (StandsFor new) (sym (map-append record_bytes log (f ∷ []))) (stands (map record_bytes log) logs.stands);
             kept = all_append IsKept log (f ∷ []) logs.kept (kept, tt);
           } in
-          subst (λ (fs : List Flow). Logs new (log ++ fs)) (sym one) more;
+          subst (λ (fs : List Flow). Logs (StandsFor new) (log ++ fs)) (sym one) more;
     }
 
 -- and without one
@@ -69,5 +69,5 @@ takes_none message r ring is sound none holds =
         no_other = none;
         kept = subst (λ (o : Option Flow). IfSome o (λ f. length (record_bytes f) ≤ 8192)) (sym there) tt;
       };
-      logs = λ log logs. subst (Logs ring) (sym (ap (λ (fs : List Flow). log ++ fs) one ∙ append-nil log)) logs;
+      logs = λ log logs. subst (Logs (StandsFor ring)) (sym (ap (λ (fs : List Flow). log ++ fs) one ∙ append-nil log)) logs;
     }

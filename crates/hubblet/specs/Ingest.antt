@@ -16,16 +16,16 @@ pub record IsKept (f : Flow) : Type 0 where
   pub fits : FlowFits f
   pub short : length (record_bytes f) ≤ longest_record
 
--- the ring's log are the records of these flows
-pub record Logs (ring : Kept) (log : List Flow) : Type 0 where
-  pub stands : StandsFor ring (map record_bytes log)
+-- the log that a ring stands for, or that its reader tells, are the records of these flows
+pub record Logs (stands_for : List (List ℕ) → Type 0) (log : List Flow) : Type 0 where
+  pub stands : stands_for (map record_bytes log)
   pub kept : AllByRecursion IsKept log
 
 -- the file is a recording, and the ring has its flows
 pub record Ingests (file : List ℕ) (ring : Kept) : Type 0 where
   pub responses : List GetFlowsResponse
   pub recorded : Recorded file responses
-  pub logs : Logs ring (flows responses)
+  pub logs : Logs (StandsFor ring) (flows responses)
 
 -- the file is a recording, and these are the frames of the reply
 pub record IsAnswered (file frames : List ℕ) : Type 0 where
@@ -36,7 +36,7 @@ pub record IsAnswered (file frames : List ℕ) : Type 0 where
 -- the message is taken, and the ring has one record more, that of its flow, where it holds one
 pub record TakesMessage (message : List ℕ) (old new : Kept) : Type 0 where
   pub taken : IsTaken message
-  pub logs : (log : List Flow) → Logs old log → Logs new (log ++ flows (read_response message ∷ []))
+  pub logs : (log : List Flow) → Logs (StandsFor old) log → Logs (StandsFor new) (log ++ flows (read_response message ∷ []))
 
 -- why a message that starts at a place of the file was not taken
 abbrev pub IsUntakenMessage : List ℕ → ℕ → Untaken → Type 0

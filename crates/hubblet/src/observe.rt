@@ -3,7 +3,10 @@ ghost use Rattle.std.specs.Prelude.{◌≡◌, ◌≤◌, ◌↔◌, ◌⊎◌, 
 ghost use Rattle.hb_edge.specs.Causes.{Rose};
 ghost use Rattle.hb_edge.specs.Shelf.{Files};
 ghost use Rattle.hubblet.specs.Words.{IsObserve};
-ghost use Rattle.hubblet.specs.Ingest.{IsAnswered, IsUntaken};
+ghost use Rattle.hb_flow.specs.declared.flow.Flow.{Flow};
+ghost use Rattle.hb_listring.specs.Log.{StandsFor};
+ghost use Rattle.hubblet.specs.Ingest.{IsAnswered, IsUntaken, Logs};
+ghost use Rattle.hubblet.specs.Reply.{localhost, reply};
 ghost use Rattle.hubblet.specs.Observe.{Has, Observed, Completes};
 ghost use Rattle.hubblet.specs.Refusal.{refusal};
 
@@ -14,8 +17,8 @@ use crate::status::Status;
 use crate::words::observed_file;
 use crate::writing::write_whole;
 use hb_edge::{Clock, Shelf, Sink};
-use hb_listring::ListRing;
-use hb_wire::Text;
+use hb_listring::{ListEye, ListReader, ListRing};
+use hb_wire::{NoMemory, Text};
 use std::alloc::Global;
 
 /// Runs the command of these words: reads the file that they name from the shelf, and writes the
@@ -97,12 +100,30 @@ fn answer(alloc: Global, file: &[u8]) -> Result<Vec<u8>, Untaken>
         return Err(Untaken::NoMemory);
     };
     match ingest(alloc, file, &mut ring) {
-        Ok(()) => match reply_of(alloc, &ring, NAME) {
+        Ok(()) => match reply_from(alloc, &ring) {
             Ok(frames) => Ok(frames),
             Err(_) => Err(Untaken::NoMemory),
         },
         Err(why) => Err(why),
     }
+}
+
+/// The reply of a node with this ring.
+fn reply_from(alloc: Global, ring: &ListRing) -> Result<Vec<u8>, NoMemory>
+    requires capacity { ring.now.capacity ≡ CAPACITY }
+    requires slot { ring.now.slot ≡ RECORD }
+    requires logs { (log : List Flow) × Logs (StandsFor ring.now) log }
+    ensures { IfOk result (λ frames. (log : List Flow) → Logs (StandsFor ring.now) log
+        → frames.items ≡ reply localhost CAPACITY log) }
+{
+    let Ok(mut reader) = ListReader::new(alloc) else {
+        return Err(NoMemory);
+    };
+    let mut eye = ListEye {
+        reader: &mut reader,
+        ring,
+    };
+    reply_of(alloc, &mut eye, NAME)
 }
 
 /// Why nothing was written.

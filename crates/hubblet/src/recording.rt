@@ -9,7 +9,8 @@ ghost use Rattle.hubblet.specs.Ingest.{TakesMessage, IsUntakenMessage, IsUnkept,
 
 use crate::frames::{BODY, MESSAGE, first_frame};
 use hb_flow::{DecodeFault, Flow, GetFlowsResponse, record_of};
-use hb_listring::{ListRing, Put};
+use hb_listring::ListRing;
+use hb_look::{Keep, Put};
 use hb_wire::{Field, NoMemory, next_field};
 use std::alloc::Global;
 

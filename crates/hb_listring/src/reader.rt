@@ -1,0 +1,127 @@
+//! `ListReader`: the looks that one reader made.
+ghost use Rattle.std.specs.Prelude.{◌≡◌, ◌^◌, ◌<◌, ◌≤◌, length, IfOk, IsOk, OnOk, OnErr};
+ghost use Rattle.hb_look.specs.Reader.{IsLater, fresh};
+ghost use Rattle.hb_listring.specs.Places.{HasSeenAtMost, loaded, looked};
+ghost use Rattle.hb_listring.specs.Found.{found_in};
+
+use crate::ring::Place;
+use bytes::Bytes;
+use hb_look::NoMemory;
+use std::alloc::Global;
+use std::marker::Model;
+
+/// The looks that a reader made at one ring, in order, and what it has seen of the ring's count. The
+/// records that it got are shared with the ring, and stay when they are overwritten there.
+#[derive(Drop)]
+pub struct ListReader {
+    looks: Vec<StoredLook>,
+    seen: u64,
+    loads: u64,
+}
+
+impl Model for ListReader {
+    ghost use Rattle.std.specs.Prelude.{◌^◌, ◌≤◌, length};
+    ghost use Rattle.hb_look.specs.Reader.{Reader};
+
+    ghost Value = { Reader };
+
+    ghost view = { λ r. record {
+      looks = r.looks.items;
+      finished = record { count = r.seen; loads = r.loads };
+      begun = record { count = r.seen; loads = r.loads };
+    } };
+
+    ghost invariant = { λ r. (length r.looks.items ≤ 2 ^ 62) × (r.seen ≤ 2 ^ 62) };
+}
+
+impl ListReader {
+    /// A reader that made no look. It takes no memory.
+    pub fn new(alloc: Global) -> Result<ListReader, NoMemory>
+        ensures ok { IsOk result }
+        ensures fresh { IfOk result (λ reader. reader ≡ fresh) }
+    {
+        Ok(ListReader {
+            looks: Vec::new(alloc),
+            seen: 0,
+            loads: 0,
+        })
+    }
+
+    /// How many looks it made.
+    pub(crate) fn looked(&self) -> u64
+        ensures { (result ≡ length self.now.looks) × (result ≤ 2 ^ 62) }
+    {
+        self.looks.len() as u64
+    }
+
+    /// Loads the ring's count of records.
+    pub(crate) fn load(&mut self, written: u64)
+        requires seen { HasSeenAtMost written self.old }
+        requires most { written ≤ 2 ^ 62 }
+        ensures loaded { self.new ≡ loaded self.old written }
+        ensures later { IsLater self.old self.new }
+    {
+        self.seen = written;
+        self.loads = self.loads.saturating_add(1);
+    }
+
+    /// Loads the ring's count of records, and adds a look.
+    pub(crate) fn add_look(
+        &mut self,
+        written: u64,
+        position: u64,
+        moment: u64,
+        place: Place<'_>,
+    ) -> Result<(), NoMemory>
+        requires unspent { length self.old.looks < 2 ^ 62 }
+        requires seen { HasSeenAtMost written self.old }
+        requires most { written ≤ 2 ^ 62 }
+        ensures ok { OnOk result
+            (self.new ≡ looked self.old written position moment (found_in place.entry)) }
+        ensures later { IsLater self.old self.new }
+        ensures err { OnErr result (self.new ≡ self.old) }
+    {
+        let found = match place {
+            Place::Held(record) => Stored::Got(record.clone()?),
+            Place::Overwritten(next) => Stored::Gone(next),
+            Place::Unwritten => Stored::NotYet,
+        };
+        let look = StoredLook {
+            position,
+            found,
+            moment,
+        };
+        self.looks.push(look)?;
+        self.load(written);
+        Ok(())
+    }
+}
+
+/// What a look found.
+#[derive(Drop)]
+enum Stored {
+    Got(Bytes),
+    Gone(u64),
+    NotYet,
+}
+
+/// A look that was made.
+#[derive(Drop)]
+struct StoredLook {
+    position: u64,
+    found: Stored,
+    moment: u64,
+}
+
+impl Model for StoredLook {
+    ghost use Rattle.hb_look.specs.Looks.{LookMade};
+    ghost use Rattle.hb_listring.specs.Found.{stored};
+
+    ghost Value = { LookMade };
+
+    ghost view = { λ l. record {
+      position = l.position;
+      found = stored l.found;
+      moment = l.moment;
+    } };
+}

@@ -1,0 +1,5 @@
+pub mod Looks
+pub mod Stands
+pub mod Reader
+pub mod Answers
+pub mod Room

@@ -1,0 +1,51 @@
+//! The writer of a ring.
+ghost use Rattle.std.specs.Prelude.{◌≡◌, ◌≢◌, ◌↔◌, ℕ, ◌+◌, ◌^◌, ◌<◌, ◌≤◌, List, [], ◌∷◌, ◌++◌, length};
+
+/// What became of a record that was put. After each answer but `Done` the ring is as it was.
+#[derive(Clone, Copy, Debug, PartialEq, Eq)]
+pub enum Put {
+    /// The record has the next position.
+    Done,
+    /// The record has more bytes than the ring takes.
+    TooLong,
+    /// 2^62 records were put: there is no further position.
+    Spent,
+    /// There was no memory for the record's bytes.
+    NoMemory,
+}
+
+/// A writer of a ring.
+pub trait Keep {
+    ghost use Rattle.std.specs.Prelude.{ℕ, List};
+
+    /// The log of all records that were put into its ring, in order, is this.
+    ghost stands_for: { Self → List (List ℕ) → Type 0 };
+
+    /// How many records were put.
+    ghost written: { Self → ℕ };
+
+    /// The most bytes of a record.
+    ghost longest: { Self → ℕ };
+
+    /// What no call changes: the loans that it holds, and the ring's limits.
+    ghost Fixed: { Type 0 };
+
+    ghost fixed: { Self → Self.Fixed };
+
+    /// Puts a copy of the record at the next position.
+    fn put(&mut self, bytes: &[u8]) -> Put
+        ensures done { result ≡ Put.Done → (log : List (List ℕ)) → stands_for self.old log
+            → stands_for self.new (log ++ bytes.now ∷ []) }
+        ensures too_long { (result ≡ Put.TooLong) ↔ (longest self.old < length bytes.now) }
+        ensures spent { (result ≡ Put.Spent)
+            ↔ ((length bytes.now ≤ longest self.old) × (written self.old ≡ 2 ^ 62)) }
+        ensures kept { result ≢ Put.Done → (log : List (List ℕ)) → stands_for self.old log
+            → stands_for self.new log }
+        ensures written { (result ≡ Put.Done → written self.new ≡ written self.old + 1)
+            × (result ≢ Put.Done → written self.new ≡ written self.old) }
+        ensures limits { longest self.new ≡ longest self.old }
+        ensures fixed { fixed self.new ≡ fixed self.old };
+
+    /// The number of records is the log's length.
+    ghost counts: { (w : Self) (log : List (List ℕ)) → stands_for w log → length log ≡ written w };
+}
