@@ -32,9 +32,9 @@ abbrev pub again : Seen → ℕ → Seen
 again seen count = record { count = count; loads = min (seen.loads + 1) (2 ^ 64 - 1) }
 
 -- A reader that loaded the ring's count of records, which is both of the counts: none is being written when it is looked at.
-abbrev pub loaded : Reader → ℕ → Reader
-loaded reader count = record reader { finished = again reader.finished count; begun = again reader.begun count }
+abbrev pub after_load : Reader → ℕ → Reader
+after_load reader count = record reader { finished = again reader.finished count; begun = again reader.begun count }
 
 -- a reader that made one more look
-abbrev pub looked : Reader → ℕ → ℕ → ℕ → Found → Reader
-looked reader count position moment found = record (loaded reader count) { looks = with_look reader.looks position moment (Some found) }
+abbrev pub after_look : Reader → ℕ → ℕ → ℕ → Found → Reader
+after_look reader count position moment found = record (after_load reader count) { looks = with_look reader.looks position moment (Some found) }

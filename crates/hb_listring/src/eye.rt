@@ -5,7 +5,7 @@ use crate::reader::ListReader;
 use crate::ring::{ListRing, Place};
 use hb_look::{Look, Looked, Record};
 
-/// A reader lent to its ring, through which it looks. A reader is lent to one ring only.
+/// A reader lent to a ring, through which it looks. A reader is meant for one ring.
 #[derive(Drop)]
 pub struct ListEye<'a> {
     pub reader: &'a mut ListReader,

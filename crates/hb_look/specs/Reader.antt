@@ -23,8 +23,8 @@ unseen = record { count = 0; loads = 0 }
 abbrev pub fresh : Reader
 fresh = record { looks = []; finished = unseen; begun = unseen }
 
--- A count was loaded in a call, and `new.count` is what was loaded. How often it was loaded has risen; it stops at 2 ^ 64 - 1,
--- and counts as risen where it stands there.
+-- A count was loaded in a call: how often it was loaded has risen. That number stops at 2 ^ 64 - 1, and counts as risen where
+-- it stands there. What was loaded is `new.count`, since no load is below what was seen.
 abbrev pub Loaded : Seen → Seen → Type 0
 Loaded old new = min (old.loads + 1) (2 ^ 64 - 1) ≤ new.loads
 

@@ -35,6 +35,7 @@ impl Record {
     /// Its bytes.
     pub fn bytes(&self) -> &[u8]
         ensures value { result.now ≡ self.now.bytes }
+        ensures within { length self.now.bytes ≤ self.now.room }
     {
         &self.bytes
     }

@@ -39,10 +39,8 @@ pub trait Keep {
         ensures too_long { (result ≡ Put.TooLong) ↔ (longest self.old < length bytes.now) }
         ensures spent { (result ≡ Put.Spent)
             ↔ ((length bytes.now ≤ longest self.old) × (written self.old ≡ 2 ^ 62)) }
-        ensures kept { result ≢ Put.Done → (log : List (List ℕ)) → stands_for self.old log
-            → stands_for self.new log }
-        ensures written { (result ≡ Put.Done → written self.new ≡ written self.old + 1)
-            × (result ≢ Put.Done → written self.new ≡ written self.old) }
+        ensures kept { result ≢ Put.Done → self.new ≡ self.old }
+        ensures written { result ≡ Put.Done → written self.new ≡ written self.old + 1 }
         ensures limits { longest self.new ≡ longest self.old }
         ensures fixed { fixed self.new ≡ fixed self.old };
 

@@ -60,7 +60,7 @@ pub trait Look {
         // Where it tells the ring's log, the answer is that of the log.
         ensures told { (log : List (List ℕ)) → tells self.old log → IfSome
             (found_by result out.new.bytes) (IsFoundAt log (capacity self.old) position) }
-        ensures seen { (log : List (List ℕ)) → tells self.old log → result ≢ Looked.NoMemory
+        ensures told_count { (log : List (List ℕ)) → tells self.old log → result ≢ Looked.NoMemory
             → (reader self.new).finished.count ≡ length log }
         ensures stands { (log : List (List ℕ)) → tells self.old log
             → ReaderStandsFor log (capacity self.old) (reader self.old)
