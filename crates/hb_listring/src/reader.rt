@@ -31,7 +31,7 @@ impl Model for ListReader {
       begun = record { count = r.seen; loads = r.loads };
     } };
 
-    ghost invariant = { λ r. (length r.looks.items ≤ 2 ^ 62) × (r.seen ≤ 2 ^ 62) };
+    ghost invariant = { λ r. length r.looks.items ≤ 2 ^ 62 };
 }
 
 impl ListReader {
@@ -57,7 +57,6 @@ impl ListReader {
     /// Loads the ring's count of records.
     pub(crate) fn load(&mut self, written: u64)
         requires seen { HasSeenAtMost written self.old }
-        requires most { written ≤ 2 ^ 62 }
         ensures loaded { self.new ≡ after_load self.old written }
         ensures later { IsLater self.old self.new }
     {
@@ -75,7 +74,6 @@ impl ListReader {
     ) -> Result<(), NoMemory>
         requires unspent { length self.old.looks < 2 ^ 62 }
         requires seen { HasSeenAtMost written self.old }
-        requires most { written ≤ 2 ^ 62 }
         ensures ok { OnOk result
             (self.new ≡ after_look self.old written position moment (found_in place.entry)) }
         ensures later { IsLater self.old self.new }
