@@ -1,7 +1,7 @@
 //! Calls of the forms in memory, of the adapters, and through the bounds.
 use crate::{
-    Clock, FileShelf, MemShelf, MemSink, RealClock, SetClock, Shelf, Shelved, Sink, StdoutSink,
-    Sunk,
+    Clock, FileShelf, Link, MemLink, MemShelf, MemSink, Moved, RealClock, SetClock, Shelf, Shelved,
+    Sink, StdoutSink, Sunk,
 };
 use std::test::Fail;
 use std::time::Duration;
@@ -51,6 +51,100 @@ fn a_sink_takes_two_bytes_a_write(rt: HostRuntime) -> Result<(), Fail> {
     assert_eq!(rt; sink.sent(), [1, 2, 3, 4, 5, 4, 5].as_slice());
     assert_eq!(rt; sink.faults(), 1);
     assert!(rt; !sink.starved());
+    Ok(())
+}
+
+// What one read of a link gives, into four bytes that were 0.
+fn receive<L: Link>(link: &mut L) -> (Moved, [u8; 4]) {
+    let mut buf = [0; 4];
+    let answer = link.poll_read(&mut buf);
+    (answer, buf)
+}
+
+// What one write of a link answers, which is never the end.
+fn offer<L: Link>(link: &mut L, piece: [u8; 3]) -> Moved {
+    match link.poll_write(&piece) {
+        Moved::End => unreachable!(),
+        answer => answer,
+    }
+}
+
+#[test]
+fn a_link_is_written_in_pieces(rt: HostRuntime) -> Result<(), Fail> {
+    let mut link = MemLink::new(rt.alloc(), 7)?;
+    for (held, most, want) in [
+        (false, usize::MAX, Moved::Took(3)),
+        (false, 2, Moved::Took(2)),
+        (true, 2, Moved::NotYet),
+        (true, 4, Moved::NotYet),
+        (false, 1, Moved::Took(1)),
+    ] {
+        link.set_held(held);
+        link.set_piece(most);
+        assert_eq!(rt; offer(&mut link, [1, 2, 3]), want);
+    }
+    assert_eq!(rt; link.sent(), [1, 2, 3, 1, 2, 1].as_slice());
+    assert_eq!(rt;
+        (link.faults(), link.read_waits(), link.write_waits()),
+        (0, 0, 2)
+    );
+    assert_eq!(rt; link.key(), 7);
+    assert!(rt; !link.starved());
+    Ok(())
+}
+
+#[test]
+fn a_link_is_read_in_pieces(rt: HostRuntime) -> Result<(), Fail> {
+    let mut link = MemLink::new(rt.alloc(), 0)?;
+    for (bytes, most, want) in [
+        ([].as_slice(), usize::MAX, (Moved::NotYet, [0, 0, 0, 0])),
+        (
+            [1, 2, 3, 4, 5, 6].as_slice(),
+            usize::MAX,
+            (Moved::Took(4), [1, 2, 3, 4]),
+        ),
+        ([7, 8, 9].as_slice(), 3, (Moved::Took(3), [5, 6, 7, 0])),
+        ([].as_slice(), 3, (Moved::Took(2), [8, 9, 0, 0])),
+        ([].as_slice(), 3, (Moved::NotYet, [0, 0, 0, 0])),
+        ([1, 2].as_slice(), 1, (Moved::Took(1), [1, 0, 0, 0])),
+    ] {
+        link.supply(bytes)?;
+        link.set_piece(most);
+        assert_eq!(rt; receive(&mut link), want);
+    }
+    link.end();
+    for want in [
+        (Moved::Took(1), [2, 0, 0, 0]),
+        (Moved::End, [0; 4]),
+        (Moved::End, [0; 4]),
+    ] {
+        assert_eq!(rt; receive(&mut link), want);
+    }
+    assert_eq!(rt;
+        (link.faults(), link.read_waits(), link.write_waits()),
+        (0, 2, 0)
+    );
+    Ok(())
+}
+
+#[test]
+fn a_link_counts_reads_and_writes_together(rt: HostRuntime) -> Result<(), Fail> {
+    let mut link = MemLink::new(rt.alloc(), 0)?;
+    link.supply(&[5, 6])?;
+    link.set_fail(&[2, 3, 5])?;
+    for (written, read) in [
+        (Moved::Took(3), (Moved::Failed, [0, 0, 0, 0])),
+        (Moved::Failed, (Moved::Took(2), [5, 6, 0, 0])),
+        (Moved::Failed, (Moved::NotYet, [0, 0, 0, 0])),
+    ] {
+        assert_eq!(rt; offer(&mut link, [1, 2, 3]), written);
+        assert_eq!(rt; receive(&mut link), read);
+    }
+    assert_eq!(rt; link.sent(), [1, 2, 3].as_slice());
+    assert_eq!(rt;
+        (link.faults(), link.read_waits(), link.write_waits()),
+        (3, 1, 0)
+    );
     Ok(())
 }
 

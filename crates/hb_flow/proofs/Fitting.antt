@@ -1,5 +1,5 @@
 -- What is read of bytes that have no fault has a spelling.
-use Rattle.std.proofs.Common.{◌≡◌, ℕ, zero, suc, ◌<◌, ◌^◌, Bool, true, false, cond, eqb, List, [], ◌∷◌, ◌++◌, length, drop, Option, Some, None, refl, sym, ap, subst, ◌∙◌, arith, mod-eq_of_lt}
+use Rattle.std.proofs.Common.{◌≡◌, ℕ, zero, suc, ◌<◌, ◌^◌, Bool, true, false, cond, eqb, List, [], ◌∷◌, ◌++◌, length, drop, Option, Some, None, refl, sym, ap, subst, ◌∙◌, arith, inl, inr, mod-eq_of_lt}
 use Rattle.std.specs.Prelude.{pos, FitsSigned, IfSome}
 use Rattle.std.specs.Int.{w32, w64, cast_signed, int_wrap}
 use Rattle.std.specs.Option.{option_map}
@@ -10,11 +10,12 @@ use Rattle.std.proofs.lemmas.Str.{IsUtf8-nil, IsUtf8-from_is_utf8}
 use Rattle.hb_wire.specs.Varint.{AreBytes}
 use Rattle.hb_wire.specs.Field.{Content, Varint, Fixed64, Body, Fixed32, SpellsField}
 use Rattle.hb_wire.proofs.FieldLemmas.{field_front, AreBytes_drop}
-use Rattle.hb_flow.specs.Fields.{Part, parts_of, parts, numbers, bodies, last_or, joined, Row, knows, unknown}
-use Rattle.hb_flow.specs.Faults.{flow_check, response_check, response_fault, text_fault}
-use Rattle.hb_flow.specs.Messages.{int64, int32, read_stamp, read_flow, read_response, SpellUnknown, StampFits, FlowFits, ResponseFits, flow_row, response_row}
+use Rattle.hb_flow.specs.Fields.{Part, parts_of, parts, numbers, bodies, last_or, joined, members, last_run, Row, knows, unknown}
+use Rattle.hb_flow.specs.Faults.{Check, flow_check, lost_event_fault, response_check, response_fault, text_fault}
+use Rattle.hb_flow.specs.Messages.{int64, int32, read_stamp, read_flow, read_int32_value, read_lost_event, read_member, read_response, SpellUnknown, StampFits, FlowFits, Int32ValueFits, LostEventFits, MemberFits, ResponseFits, flow_row, lost_event_row, response_row}
 use Rattle.hb_flow.proofs.Joining.{Found, Nothing, read_as, Joins, Sound, SoundPart, Whole, whole, parts_joined, spelled_divide}
-use Rattle.hb_flow.proofs.ByNumber.{all_sound, all_weaker}
+use Rattle.hb_flow.proofs.Merging.{all_sound, all_weaker}
+use Rattle.hb_flow.proofs.Runs.{IsMember, members_sound, run_holds}
 use Rattle.hb_flow.proofs.Pieces.{all_append, AreSpelled}
 
 -- ---- numbers
@@ -43,7 +44,7 @@ pub parts_spelled : (bytes : List ℕ) → AreBytes bytes → AreSpelled (parts 
 parts_spelled bytes are = parts_spelled_of (length bytes) bytes are
 
 -- what holds of a default and of all items holds of the last
-last_is : {A : Type 0} (P : A → Type 0) (d : A) (xs : List A) → P d → AllByRecursion P xs → P (last_or d xs)
+pub last_is : {A : Type 0} (P : A → Type 0) (d : A) (xs : List A) → P d → AllByRecursion P xs → P (last_or d xs)
 last_is P d [] p all = p
 last_is P d (x ∷ xs) p all = last_is P x xs all.0 all.1
 
@@ -63,7 +64,7 @@ below_step number k raw (Fixed64 value) ps spelled rest = passed_over (eqb k num
 below_step number k raw (Body body) ps spelled rest = passed_over (eqb k number) (numbers number ps) rest
 below_step number k raw (Fixed32 value) ps spelled rest = passed_over (eqb k number) (numbers number ps) rest
 
-numbers_below : (number : ℕ) (ps : List Part) → AreSpelled ps → AllByRecursion (λ n. n < 2 ^ 64) (numbers number ps)
+pub numbers_below : (number : ℕ) (ps : List Part) → AreSpelled ps → AllByRecursion (λ n. n < 2 ^ 64) (numbers number ps)
 numbers_below number [] spelled = tt
 numbers_below number (p ∷ ps) spelled = below_step number p.field.number p.raw p.field.content ps spelled.0 (numbers_below number ps spelled.1)
 
@@ -79,7 +80,7 @@ kept_with row p false kept e spelled rest = record {
   whole = ap (λ (bs : List ℕ). p.raw ++ bs) rest.whole;
 }
 
-unknown_spelled : (row : Row) (ps : List Part) → AreSpelled ps → SpellUnknown row (unknown row ps)
+pub unknown_spelled : (row : Row) (ps : List Part) → AreSpelled ps → SpellUnknown row (unknown row ps)
 unknown_spelled row [] spelled = record { parts = []; spelled = tt; not_known = tt; whole = refl }
 unknown_spelled row (p ∷ ps) spelled = kept_with row p (knows row p.field) (unknown row ps) refl spelled.0 (unknown_spelled row ps spelled.1)
 
@@ -114,9 +115,13 @@ flat_bytes [] all = λ i. omega arith
 flat_bytes (b ∷ bs) all = append_bytes b (flat_map (λ x. x) bs) all.0 (flat_bytes bs all.1)
 
 -- of bodies with no fault no part has one
-sound_joined : (bs : List (List ℕ)) → AllByRecursion (Whole flow_check) bs → AllByRecursion (SoundPart flow_check) (flat_map parts bs)
-sound_joined [] all = tt
-sound_joined (b ∷ bs) all = all_append (SoundPart flow_check) (parts b) (flat_map parts bs) all.0.sound (sound_joined bs all.1)
+flat_sound : (check : Check) (bs : List (List ℕ)) → AllByRecursion (Whole check) bs → AllByRecursion (SoundPart check) (flat_map parts bs)
+flat_sound check [] all = tt
+flat_sound check (b ∷ bs) all = all_append (SoundPart check) (parts b) (flat_map parts bs) all.0.sound (flat_sound check bs all.1)
+
+-- and so in the bodies read as one
+sound_joined : (check : Check) (bs : List (List ℕ)) → AllByRecursion (Whole check) bs → AllByRecursion (SoundPart check) (parts (flat_map (λ b. b) bs))
+sound_joined check bs all = subst (AllByRecursion (SoundPart check)) (sym (parts_joined bs (all_weaker (Whole check) Joins (λ b is. is.joins) bs all))) (flat_sound check bs all)
 
 -- ---- messages
 
@@ -128,7 +133,7 @@ stamp_fits bytes are = record {
 }
 
 -- in the bodies of one number
-stamps_fit : (bs : List (List ℕ)) → AllByRecursion AreBytes bs → IfSome (option_map read_stamp (joined bs)) StampFits
+pub stamps_fit : (bs : List (List ℕ)) → AllByRecursion AreBytes bs → IfSome (option_map read_stamp (joined bs)) StampFits
 stamps_fit [] all = tt
 stamps_fit (b ∷ bs) all = stamp_fits (b ++ flat_map (λ x. x) bs) (flat_bytes (b ∷ bs) all)
 
@@ -154,18 +159,54 @@ flow_fits bytes are sound = record {
   unknown = unknown_spelled flow_row (parts bytes) (parts_spelled bytes are);
 }
 
--- a flow's body in an answer
+value_fits : (bytes : List ℕ) → Int32ValueFits (read_int32_value bytes)
+unfolding read_int32_value
+value_fits bytes = record { value = int32_fits (last_or 0 (numbers 1 (parts bytes))) }
+
+values_fit : (bs : List (List ℕ)) → IfSome (option_map read_int32_value (joined bs)) Int32ValueFits
+values_fit [] = tt
+values_fit (b ∷ bs) = value_fits (b ++ flat_map (λ x. x) bs)
+
+lost_fits : (bytes : List ℕ) → AreBytes bytes → LostEventFits (read_lost_event bytes)
+unfolding read_lost_event
+lost_fits bytes are =
+    let ps = parts bytes in
+    record {
+      source = int32_fits (last_or 0 (numbers 1 ps));
+      num_events_lost = last_is (λ n. n < 2 ^ 64) 0 (numbers 2 ps) (omega arith) (numbers_below 2 ps (parts_spelled bytes are));
+      cpu = values_fit (bodies 3 ps);
+      unknown = unknown_spelled lost_event_row ps (parts_spelled bytes are);
+    }
+
+pub lost_event_fits : (bytes : List ℕ) → AreBytes bytes → lost_event_fault bytes ≡ None → LostEventFits (read_lost_event bytes)
+lost_event_fits bytes are none = lost_fits bytes are
+
+-- ---- the member of the oneof that counts
+
+-- flows in an answer, read as one
 whole_flow : (body : List ℕ) → Sound response_check 1 body → Whole flow_check body
 unfolding response_check
 whole_flow body sound = whole flow_check sound.0 body sound.2 sound.1
 
-flows_fit : (bs : List (List ℕ)) → AllByRecursion (Sound response_check 1) bs → IfSome (option_map read_flow (joined bs)) FlowFits
-flows_fit [] all = tt
-flows_fit (b ∷ bs) all =
-    let wholes : AllByRecursion (Whole flow_check) (b ∷ bs) = all_weaker (Sound response_check 1) (Whole flow_check) whole_flow (b ∷ bs) all in
-    let join : AllByRecursion Joins (b ∷ bs) = all_weaker (Whole flow_check) Joins (λ x w. w.joins) (b ∷ bs) wholes in
-    flow_fits (b ++ flat_map (λ x. x) bs) (flat_bytes (b ∷ bs) (all_weaker (Sound response_check 1) AreBytes (λ x s. s.2) (b ∷ bs) all))
-    (subst (AllByRecursion (SoundPart flow_check)) (sym (parts_joined (b ∷ bs) join)) (sound_joined (b ∷ bs) wholes))
+flows_fit : (bs : List (List ℕ)) → AllByRecursion (Sound response_check 1) bs → FlowFits (read_flow (flat_map (λ b. b) bs))
+flows_fit bs all =
+    flow_fits (flat_map (λ b. b) bs) (flat_bytes bs (all_weaker (Sound response_check 1) AreBytes (λ b s. s.2) bs all))
+    (sound_joined flow_check bs (all_weaker (Sound response_check 1) (Whole flow_check) whole_flow bs all))
+
+-- the run of a member
+run_fits : (number : ℕ) (bs : List (List ℕ)) → IsMember number → AllByRecursion (Sound response_check number) bs → MemberFits (read_member number (flat_map (λ b. b) bs))
+run_fits number bs (inl at) all =
+    subst (λ (n : ℕ). AllByRecursion (Sound response_check n) bs → MemberFits (read_member n (flat_map (λ b. b) bs))) (sym at) (λ all. flows_fit bs all) all
+run_fits number bs (inr (inl at)) all = subst (λ (n : ℕ). MemberFits (read_member n (flat_map (λ b. b) bs))) (sym at) tt
+run_fits number bs (inr (inr at)) all =
+    subst (λ (n : ℕ). AllByRecursion (Sound response_check n) bs → MemberFits (read_member n (flat_map (λ b. b) bs))) (sym at)
+    (λ all. lost_fits (flat_map (λ b. b) bs) (flat_bytes bs (all_weaker (Sound response_check 3) AreBytes (λ b s. s.2) bs all))) all
+
+-- the last run, if there is one
+run_there : (run : Option (ℕ × List (List ℕ))) → IfSome run (λ r. IsMember r.0 × AllByRecursion (Sound response_check r.0) r.1)
+    → IfSome (option_map (λ m. read_member m.0 (flat_map (λ b. b) m.1)) run) MemberFits
+run_there None holds = tt
+run_there (Some r) holds = run_fits r.0 r.1 holds.0 holds.1
 
 pub response_fits : (bytes : List ℕ) → AreBytes bytes → response_fault bytes ≡ None → ResponseFits (read_response bytes)
 unfolding read_response
@@ -173,7 +214,7 @@ response_fits bytes are none =
     let ps = parts bytes in
     let sound = (whole response_check 0 bytes are none).sound in
     record {
-      flow = flows_fit (bodies 1 ps) (all_sound response_check 1 ps sound);
+      response_types = run_there (last_run (members ps)) (run_holds IsMember (Sound response_check) (members ps) (members_sound ps sound));
       node_name = last_is IsUtf8 [] (bodies 1000 ps) IsUtf8-nil (all_weaker (Sound response_check 1000) IsUtf8 name_fits (bodies 1000 ps) (all_sound response_check 1000 ps sound));
       time = stamps_fit (bodies 1001 ps) (all_weaker (Sound response_check 1001) AreBytes (λ b s. s.2) (bodies 1001 ps) (all_sound response_check 1001 ps sound));
       unknown = unknown_spelled response_row ps (parts_spelled bytes are);

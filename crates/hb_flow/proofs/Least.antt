@@ -8,8 +8,8 @@ use Rattle.std.proofs.lemmas.Str.{IsUtf8-from_is_utf8, is_utf8-from_IsUtf8}
 use Rattle.hb_wire.specs.Field.{Content, Varint, Fixed64, Body, Fixed32, LiesAt}
 use Rattle.hb_wire.proofs.FieldLemmas.{field_front}
 use Rattle.hb_flow.specs.Fields.{parts_of}
-use Rattle.hb_flow.specs.Faults.{Check, content_fault, first_fault, message_fault, text_fault, stamp_check, flow_check, response_check, response_fault}
-use Rattle.hb_flow.specs.AllFaults.{Inside, InContent, InParts, InMessage, InText, InStamp, InFlow, InResponse, HasFault, place_of}
+use Rattle.hb_flow.specs.Faults.{Check, content_fault, first_fault, message_fault, text_fault, stamp_check, flow_check, int32_value_check, lost_event_check, lost_event_fault, response_check, response_fault}
+use Rattle.hb_flow.specs.AllFaults.{Inside, InContent, InParts, InMessage, InText, InStamp, InFlow, InInt32Value, InLostEvent, InResponse, HasFault, HasLostEventFault, place_of}
 use Rattle.hb_flow.specs.declared.fault.DecodeFault.{DecodeFault}
 use Rattle.hb_flow.specs.declared.fault.DecodeFault.TheVariants.{Malformed, BadUtf8}
 use Rattle.hb_flow.proofs.Loop.{field_at_nil}
@@ -24,7 +24,7 @@ pub record Least (told : Option DecodeFault) (Has : DecodeFault → Type 0) (pla
   pub to : (f : DecodeFault) → told ≡ Some f → place_of f ≤ place + size
 
 -- no fault
-nothing : (Has : DecodeFault → Type 0) (place size : ℕ) → ((g : DecodeFault) → Has g → ⊥) → Least None Has place size
+pub nothing : (Has : DecodeFault → Type 0) (place size : ℕ) → ((g : DecodeFault) → Has g → ⊥) → Least None Has place size
 nothing Has place size not = record {
   none = λ _ g has. not g has;
   some = λ f e. absurd cc;
@@ -38,7 +38,7 @@ one_place : (f g : DecodeFault) → Some f ≡ Some g → place_of g ≤ place_o
 one_place f g e = let same : f ≡ g = cc in omega (arith, ap place_of same)
 
 -- the same faults in other words
-same_faults : (told : Option DecodeFault) (Has Had : DecodeFault → Type 0) (place size : ℕ) → ((g : DecodeFault) → Has g → Had g) → ((g : DecodeFault) → Had g → Has g)
+pub same_faults : (told : Option DecodeFault) (Has Had : DecodeFault → Type 0) (place size : ℕ) → ((g : DecodeFault) → Has g → Had g) → ((g : DecodeFault) → Had g → Has g)
     → Least told Has place size → Least told Had place size
 same_faults told Has Had place size to back is = record {
   none = λ e g had. is.none e g (back g had);
@@ -151,20 +151,20 @@ text_with place text false e = rw e (record {
 text_least : (place : ℕ) (text : List ℕ) → Least (text_fault place text) (InText place text) place (length text)
 text_least place text = text_with place text (is_utf8 text) refl
 
-stamp_agrees : Agrees stamp_check InStamp
+pub stamp_agrees : Agrees stamp_check InStamp
 stamp_agrees number place body = nothing (InStamp number place body) place (length body) (λ g has. has)
 
 -- ---- where a field is one of several
 
-neither : {P Q A B : Type 0} → (P → ⊥) → (Q → ⊥) → (P × A) ⊎ (Q × B) → ⊥
+pub neither : {P Q A B : Type 0} → (P → ⊥) → (Q → ⊥) → (P × A) ⊎ (Q × B) → ⊥
 neither p q (inl a) = p a.0
 neither p q (inr b) = q b.0
 
-first_only : {P Q A B : Type 0} → (Q → ⊥) → (P × A) ⊎ (Q × B) → A
+pub first_only : {P Q A B : Type 0} → (Q → ⊥) → (P × A) ⊎ (Q × B) → A
 first_only not (inl a) = a.1
 first_only not (inr b) = absurd (not b.0)
 
-second_only : {P Q A B : Type 0} → (P → ⊥) → (P × A) ⊎ (Q × B) → B
+pub second_only : {P Q A B : Type 0} → (P → ⊥) → (P × A) ⊎ (Q × B) → B
 second_only not (inl a) = absurd (not a.0)
 second_only not (inr b) = b.1
 
@@ -186,20 +186,28 @@ flow_agrees number place body =
           ]
     ]
 
--- a field of none of three numbers
-none_of_three : {P Q R A B C : Type 0} → (P → ⊥) → (Q → ⊥) → (R → ⊥) → (P × A) ⊎ ((Q × B) ⊎ (R × C)) → ⊥
-none_of_three p q r (inl a) = p a.0
-none_of_three p q r (inr b) = neither q r b
+value_agrees : Agrees int32_value_check InInt32Value
+value_agrees number place body = nothing (InInt32Value number place body) place (length body) (λ g has. has)
 
--- the first of three
-first_of_three : {P Q R A B C : Type 0} → (Q → ⊥) → (R → ⊥) → (P × A) ⊎ ((Q × B) ⊎ (R × C)) → A
-first_of_three q r (inl a) = a.1
-first_of_three q r (inr b) = absurd (neither q r b)
+lost_event_agrees : Agrees lost_event_check InLostEvent
+unfolding lost_event_check
+lost_event_agrees number place body =
+    elim (cases_eq number 3) [
+      | inl e ↦ let t : eqb number 3 ≡ true = eq-eqb number 3 e in
+          rw t (same_faults (message_fault int32_value_check place body) (InMessage InInt32Value place body) (InLostEvent number place body) place (length body) (λ g has. (e, has))
+          (λ g has. has.1) (message_least int32_value_check InInt32Value value_agrees place body))
+      | inr ne ↦ let not_3 : eqb number 3 ≡ false = ne_eqb number 3 ne in rw not_3 (nothing (InLostEvent number place body) place (length body) (λ g has. ne has.0))
+    ]
 
 -- one of the others
-others_of_three : {P Q R A B C : Type 0} → (P → ⊥) → (P × A) ⊎ ((Q × B) ⊎ (R × C)) → (Q × B) ⊎ (R × C)
-others_of_three p (inl a) = absurd (p a.0)
-others_of_three p (inr b) = b
+others : {P R A : Type 0} → (P → ⊥) → (P × A) ⊎ R → R
+others p (inl a) = absurd (p a.0)
+others p (inr b) = b
+
+-- the first
+first_of : {P R A : Type 0} → (R → ⊥) → (P × A) ⊎ R → A
+first_of r (inl a) = a.1
+first_of r (inr b) = absurd (r b)
 
 response_agrees : Agrees response_check InResponse
 unfolding response_check
@@ -207,24 +215,36 @@ response_agrees number place body =
     elim (cases_eq number 1) [
       | inl e ↦ let t : eqb number 1 ≡ true = eq-eqb number 1 e in
           rw t (same_faults (message_fault flow_check place body) (InMessage InFlow place body) (InResponse number place body) place (length body) (λ g has. inl (e, has))
-          (λ g has. first_of_three (λ at. omega (arith, e, at)) (λ at. omega (arith, e, at)) has) (message_least flow_check InFlow flow_agrees place body))
+          (λ g has. first_of (λ more. neither (λ at. omega (arith, e, at)) (λ at. omega (arith, e, at)) (others (λ at. omega (arith, e, at)) more)) has)
+          (message_least flow_check InFlow flow_agrees place body))
       | inr ne ↦
           let not_1 : eqb number 1 ≡ false = ne_eqb number 1 ne in
-          elim (cases_eq number 1000) [
-            | inl e ↦ let t : eqb number 1000 ≡ true = eq-eqb number 1000 e in
-                rw (not_1, t) (same_faults (text_fault place body) (InText place body) (InResponse number place body) place (length body) (λ g has. inr (inl (e, has)))
-                (λ g has. first_only (λ at. omega (arith, e, at)) (others_of_three ne has)) (text_least place body))
-            | inr ne' ↦
-                let not_1000 : eqb number 1000 ≡ false = ne_eqb number 1000 ne' in
-                elim (cases_eq number 1001) [
-                  | inl e ↦ let t : eqb number 1001 ≡ true = eq-eqb number 1001 e in
-                      rw (not_1, not_1000, t) (same_faults (message_fault stamp_check place body) (InMessage InStamp place body) (InResponse number place body) place (length body)
-                      (λ g has. inr (inr (e, has))) (λ g has. second_only ne' (others_of_three ne has)) (message_least stamp_check InStamp stamp_agrees place body))
-                  | inr ne'' ↦ let not_1001 : eqb number 1001 ≡ false = ne_eqb number 1001 ne'' in
-                      rw (not_1, not_1000, not_1001) (nothing (InResponse number place body) place (length body) (λ g has. none_of_three ne ne' ne'' has))
+          elim (cases_eq number 3) [
+            | inl e ↦ let t : eqb number 3 ≡ true = eq-eqb number 3 e in
+                rw (not_1, t) (same_faults (message_fault lost_event_check place body) (InMessage InLostEvent place body) (InResponse number place body) place (length body) (λ g has. inr (inl (e, has)))
+                (λ g has. first_of (λ more. neither (λ at. omega (arith, e, at)) (λ at. omega (arith, e, at)) more) (others ne has))
+                (message_least lost_event_check InLostEvent lost_event_agrees place body))
+            | inr ne₃ ↦
+                let not_3 : eqb number 3 ≡ false = ne_eqb number 3 ne₃ in
+                elim (cases_eq number 1000) [
+                  | inl e ↦ let t : eqb number 1000 ≡ true = eq-eqb number 1000 e in
+                      rw (not_1, not_3, t) (same_faults (text_fault place body) (InText place body) (InResponse number place body) place (length body) (λ g has. inr (inr (inl (e, has))))
+                      (λ g has. first_only (λ at. omega (arith, e, at)) (others ne₃ (others ne has))) (text_least place body))
+                  | inr ne' ↦
+                      let not_1000 : eqb number 1000 ≡ false = ne_eqb number 1000 ne' in
+                      elim (cases_eq number 1001) [
+                        | inl e ↦ let t : eqb number 1001 ≡ true = eq-eqb number 1001 e in
+                            rw (not_1, not_3, not_1000, t) (same_faults (message_fault stamp_check place body) (InMessage InStamp place body) (InResponse number place body) place (length body)
+                            (λ g has. inr (inr (inr (e, has)))) (λ g has. second_only ne' (others ne₃ (others ne has))) (message_least stamp_check InStamp stamp_agrees place body))
+                        | inr ne'' ↦ let not_1001 : eqb number 1001 ≡ false = ne_eqb number 1001 ne'' in
+                            rw (not_1, not_3, not_1000, not_1001) (nothing (InResponse number place body) place (length body) (λ g has. neither ne' ne'' (others ne₃ (others ne has))))
+                      ]
                 ]
           ]
     ]
 
 pub response_least : (bytes : List ℕ) → Least (response_fault bytes) (HasFault bytes) 0 (length bytes)
 response_least bytes = message_least response_check InResponse response_agrees 0 bytes
+
+pub lost_event_least : (bytes : List ℕ) → Least (lost_event_fault bytes) (HasLostEventFault bytes) 0 (length bytes)
+lost_event_least bytes = message_least lost_event_check InLostEvent lost_event_agrees 0 bytes

@@ -4,8 +4,15 @@ pub mod Texts
 pub mod Pieces
 pub mod NotKnown
 pub mod Records
+pub mod MessagesAgain
 pub mod Again
 pub mod Joining
+pub mod Merging
 pub mod ByNumber
+pub mod LostEvents
+pub mod Runs
+pub mod Members
+pub mod Reading
 pub mod Fitting
+pub mod Events
 pub mod Least

@@ -1,14 +1,14 @@
 -- Fields that a row does not know: nothing is picked from them, and nothing in them is checked.
-use Rattle.std.proofs.Common.{◌≡◌, ℕ, Bool, true, false, cond, eqb, List, [], ◌∷◌, ◌++◌, Option, None, refl, sym, ap, subst, ◌∙◌, inl, inr}
+use Rattle.std.proofs.Common.{◌≡◌, ℕ, Bool, true, false, cond, eqb, ◌||◌, List, [], ◌∷◌, ◌++◌, Option, None, refl, sym, ap, subst, ◌∙◌, inl, inr}
 use Rattle.std.specs.List.{AllByRecursion, filter_map, flat_map}
 use Rattle.std.proofs.lemmas.Bool.{cases_eq, ne_eqb}
 use Rattle.std.proofs.lemmas.List.{append-nil}
 use Rattle.std.proofs.lemmas.List.Elements.{filter_map-append}
 use Rattle.std.proofs.lemmas.List.Concat.{flat_map-append}
 use Rattle.hb_wire.specs.Field.{Content, Varint, Fixed64, Body, Fixed32, Piece}
-use Rattle.hb_flow.specs.Fields.{Part, numbers, bodies, Row, knows, unknown}
-use Rattle.hb_flow.specs.Faults.{Check, content_fault, flow_check, response_check}
-use Rattle.hb_flow.specs.Messages.{flow_row, response_row}
+use Rattle.hb_flow.specs.Fields.{Part, numbers, bodies, member_in, members, Row, knows, unknown}
+use Rattle.hb_flow.specs.Faults.{Check, content_fault, flow_check, lost_event_check, response_check}
+use Rattle.hb_flow.specs.Messages.{flow_row, lost_event_row, response_row}
 
 abbrev pub field_of : ℕ → Content → Piece
 field_of number content = record { number = number; content = content }
@@ -69,6 +69,43 @@ module _ (row : Row) (number : ℕ) (known : (body : List ℕ) → knows row (fi
   pub bodies_first : (ps us : List Part) → NotKnown row us → bodies number (ps ++ us) ≡ bodies number ps
   bodies_first ps us not = filter_map-append _ ps us ∙ ap (λ (bs : List (List ℕ)). bodies number ps ++ bs) (no_bodies us not) ∙ append-nil (bodies number ps)
 
+-- ---- members of the oneof
+
+-- a field that is no body is none
+pub no_member : (a b c : Bool) → cond {A = Option (ℕ × List ℕ)} (a || b || c) None None ≡ None
+no_member true b c = refl
+no_member false true c = refl
+no_member false false true = refl
+no_member false false false = refl
+
+not_member : (number : ℕ) (content : Content) → knows response_row (field_of number content) ≡ false → member_in (field_of number content) ≡ None
+not_member number (Varint value) not = no_member (eqb number 1) (eqb number 2) (eqb number 3)
+not_member number (Fixed64 value) not = no_member (eqb number 1) (eqb number 2) (eqb number 3)
+not_member number (Fixed32 value) not = no_member (eqb number 1) (eqb number 2) (eqb number 3)
+not_member number (Body body) not =
+    elim (cases_eq number 1) [
+      | inl e ↦ absurd (let both = subst (λ (n : ℕ). knows response_row (field_of n (Body body)) ≡ false) e not in cc)
+      | inr ne ↦
+          let not_1 : eqb number 1 ≡ false = ne_eqb number 1 ne in
+          elim (cases_eq number 2) [
+            | inl e ↦ absurd (let both = subst (λ (n : ℕ). knows response_row (field_of n (Body body)) ≡ false) e not in cc)
+            | inr ne ↦
+                let not_2 : eqb number 2 ≡ false = ne_eqb number 2 ne in
+                elim (cases_eq number 3) [
+                  | inl e ↦ absurd (let both = subst (λ (n : ℕ). knows response_row (field_of n (Body body)) ≡ false) e not in cc)
+                  | inr ne ↦ let not_3 : eqb number 3 ≡ false = ne_eqb number 3 ne in rw (not_1, not_2, not_3) refl
+                ]
+          ]
+    ]
+
+no_members : (us : List Part) → NotKnown response_row us → members us ≡ []
+no_members [] not = refl
+no_members (u ∷ us) not = rw (not_member u.field.number u.field.content not.0) (no_members us not.1)
+
+-- the members among known fields and others
+pub members_first : (ps us : List Part) → NotKnown response_row us → members (ps ++ us) ≡ members ps
+members_first ps us not = filter_map-append _ ps us ∙ ap (λ (ms : List (ℕ × List ℕ)). members ps ++ ms) (no_members us not) ∙ append-nil (members ps)
+
 -- ---- the bytes that are kept
 
 all_unknown : (row : Row) (us : List Part) → NotKnown row us → unknown row us ≡ flat_map (λ (p : Part). p.raw) us
@@ -97,6 +134,17 @@ flow_passes end number (Body body) not =
           ]
     ]
 
+lost_event_passes : (end number : ℕ) (content : Content) → knows lost_event_row (field_of number content) ≡ false → content_fault lost_event_check end (field_of number content) ≡ None
+unfolding lost_event_check
+lost_event_passes end number (Varint value) not = refl
+lost_event_passes end number (Fixed64 value) not = refl
+lost_event_passes end number (Fixed32 value) not = refl
+lost_event_passes end number (Body body) not =
+    elim (cases_eq number 3) [
+      | inl e ↦ absurd (let both = subst (λ (n : ℕ). knows lost_event_row (field_of n (Body body)) ≡ false) e not in cc)
+      | inr ne ↦ let not_3 : eqb number 3 ≡ false = ne_eqb number 3 ne in rw not_3 refl
+    ]
+
 response_passes : (end number : ℕ) (content : Content) → knows response_row (field_of number content) ≡ false → content_fault response_check end (field_of number content) ≡ None
 unfolding response_check
 response_passes end number (Varint value) not = refl
@@ -107,13 +155,18 @@ response_passes end number (Body body) not =
       | inl e ↦ absurd (let both = subst (λ (n : ℕ). knows response_row (field_of n (Body body)) ≡ false) e not in cc)
       | inr ne ↦
           let not_1 : eqb number 1 ≡ false = ne_eqb number 1 ne in
-          elim (cases_eq number 1000) [
+          elim (cases_eq number 3) [
             | inl e ↦ absurd (let both = subst (λ (n : ℕ). knows response_row (field_of n (Body body)) ≡ false) e not in cc)
             | inr ne ↦
-                let not_1000 : eqb number 1000 ≡ false = ne_eqb number 1000 ne in
-                elim (cases_eq number 1001) [
+                let not_3 : eqb number 3 ≡ false = ne_eqb number 3 ne in
+                elim (cases_eq number 1000) [
                   | inl e ↦ absurd (let both = subst (λ (n : ℕ). knows response_row (field_of n (Body body)) ≡ false) e not in cc)
-                  | inr ne ↦ let not_1001 : eqb number 1001 ≡ false = ne_eqb number 1001 ne in rw (not_1, not_1000, not_1001) refl
+                  | inr ne ↦
+                      let not_1000 : eqb number 1000 ≡ false = ne_eqb number 1000 ne in
+                      elim (cases_eq number 1001) [
+                        | inl e ↦ absurd (let both = subst (λ (n : ℕ). knows response_row (field_of n (Body body)) ≡ false) e not in cc)
+                        | inr ne ↦ let not_1001 : eqb number 1001 ≡ false = ne_eqb number 1001 ne in rw (not_1, not_3, not_1000, not_1001) refl
+                      ]
                 ]
           ]
     ]
@@ -125,6 +178,10 @@ Unfaulty check = AllByRecursion (λ p. (end : ℕ) → content_fault check end p
 pub flow_unfaulty : (us : List Part) → NotKnown flow_row us → Unfaulty flow_check us
 flow_unfaulty [] not = tt
 flow_unfaulty (u ∷ us) not = (λ end. flow_passes end u.field.number u.field.content not.0, flow_unfaulty us not.1)
+
+pub lost_event_unfaulty : (us : List Part) → NotKnown lost_event_row us → Unfaulty lost_event_check us
+lost_event_unfaulty [] not = tt
+lost_event_unfaulty (u ∷ us) not = (λ end. lost_event_passes end u.field.number u.field.content not.0, lost_event_unfaulty us not.1)
 
 pub response_unfaulty : (us : List Part) → NotKnown response_row us → Unfaulty response_check us
 response_unfaulty [] not = tt

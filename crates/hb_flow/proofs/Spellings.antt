@@ -8,7 +8,7 @@ use Rattle.hb_wire.specs.Varint.{varint}
 pub spelling_two : (out mid new : List ℕ) (a b : List Piece) → mid ≡ out ++ spelling a → new ≡ mid ++ spelling b → new ≡ out ++ spelling (a ++ b)
 spelling_two out mid new a b e f = f ∙ ap (λ (x : List ℕ). x ++ spelling b) e ∙ append_assoc out (spelling a) (spelling b) ∙ ap (λ (x : List ℕ). out ++ x) (sym (flat_map-append spelled a b))
 
-spelling_three : (out mid late new : List ℕ) (a b c : List Piece) → mid ≡ out ++ spelling a → late ≡ mid ++ spelling b → new ≡ late ++ spelling c → new ≡ out ++ spelling (a ++ b ++ c)
+pub spelling_three : (out mid late new : List ℕ) (a b c : List Piece) → mid ≡ out ++ spelling a → late ≡ mid ++ spelling b → new ≡ late ++ spelling c → new ≡ out ++ spelling (a ++ b ++ c)
 spelling_three out mid late new a b c e f g = spelling_two out late new (a ++ b) c (spelling_two out mid late a b e f) g
 
 -- and after them bytes that are kept

@@ -38,16 +38,30 @@ abbrev pub InFlow : Inside
 InFlow number place body fault = ((number ≡ 1) × InMessage InStamp place body fault)
     ⊎ ((number ≡ 34) × InText place body fault)
 
--- those in a GetFlowsResponse's field: of flow, node_name or time
+-- those in an Int32Value's field: none
+abbrev pub InInt32Value : Inside
+InInt32Value number place body fault = ⊥
+
+-- those in a LostEvent's field: of cpu
+abbrev pub InLostEvent : Inside
+InLostEvent number place body fault = (number ≡ 3) × InMessage InInt32Value place body fault
+
+-- those in a GetFlowsResponse's field: of flow, lost_events, node_name or time
 abbrev pub InResponse : Inside
 InResponse number place body fault = ((number ≡ 1) × InMessage InFlow place body fault)
+    ⊎ (((number ≡ 3) × InMessage InLostEvent place body fault)
     ⊎ (((number ≡ 1000) × InText place body fault)
-    ⊎ ((number ≡ 1001) × InMessage InStamp place body fault))
+    ⊎ ((number ≡ 1001) × InMessage InStamp place body fault)))
 
 -- those of a GetFlowsResponse
 abbrev pub HasFault : List ℕ → DecodeFault → Type 0
 HasFault bytes fault = InMessage InResponse 0 bytes fault
 
+-- those of a LostEvent
+abbrev pub HasLostEventFault : List ℕ → DecodeFault → Type 0
+HasLostEventFault bytes fault = InMessage InLostEvent 0 bytes fault
+
+-- the place of a fault
 abbrev pub place_of : DecodeFault → ℕ
 place_of (Malformed at) = at
 place_of (BadUtf8 at) = at

@@ -50,10 +50,22 @@ flow_check number place body =
     else if number == 34 then text_fault place body
     else None
 
--- what is wrong in the body of a GetFlowsResponse's field: of flow, node_name or time
+-- what is wrong in the body of an Int32Value's field: nothing, since none is known
+abbrev pub int32_value_check : Check
+int32_value_check number place body = None
+
+-- what is wrong in the body of a LostEvent's field: of cpu
+unfoldable pub lost_event_check : Check
+lost_event_check number place body =
+    if number == 3 then message_fault int32_value_check place body
+    else None
+
+-- what is wrong in the body of a GetFlowsResponse's field: of flow, lost_events, node_name or time;
+-- a node_status is not looked into
 unfoldable pub response_check : Check
 response_check number place body =
     if number == 1 then message_fault flow_check place body
+    else if number == 3 then message_fault lost_event_check place body
     else if number == 1000 then text_fault place body
     else if number == 1001 then message_fault stamp_check place body
     else None
@@ -61,6 +73,10 @@ response_check number place body =
 -- the first fault of a GetFlowsResponse
 abbrev pub response_fault : List ℕ → Option DecodeFault
 response_fault bytes = message_fault response_check 0 bytes
+
+-- the first fault of a LostEvent
+abbrev pub lost_event_fault : List ℕ → Option DecodeFault
+lost_event_fault bytes = message_fault lost_event_check 0 bytes
 
 -- A reader answered the fault or, where there is none, a value with P. Want of memory is free.
 abbrev pub Answers : {X : Type 0}

@@ -1,7 +1,7 @@
 -- The fields of a message's bytes, and what is picked from them by number.
-use Rattle.std.specs.Prelude.{ℕ, zero, suc, List, [], ◌∷◌, ◌++◌, length, take, drop, Option, Some, None, Bool, false, ◌==◌, ◌&&◌, ◌||◌, if◌then◌else◌}
-use Rattle.std.specs.Option.{option_map_or}
-use Rattle.std.specs.List.{filter_map, flat_map}
+use Rattle.std.specs.Prelude.{ℕ, zero, suc, List, [], ◌∷◌, ◌++◌, length, take, drop, map, Option, Some, None, Bool, false, ◌==◌, ◌&&◌, ◌||◌, if◌then◌else◌}
+use Rattle.std.specs.Option.{option_map, option_map_or}
+use Rattle.std.specs.List.{filter_map, flat_map, list_all}
 use Rattle.hb_wire.specs.Field.{Content, Varint, Fixed64, Body, Fixed32, Piece, wire_type}
 use Rattle.hb_wire.specs.Reading.{field_at}
 
@@ -54,6 +54,26 @@ last_or d (x ∷ xs) = last_or x xs
 abbrev pub joined : List (List ℕ) → Option (List ℕ)
 joined [] = None
 joined (body ∷ others) = Some (body ++ flat_map (λ b. b) others)
+
+-- a field as an occurrence of a member of the oneof of a GetFlowsResponse: its number, and its body
+abbrev pub member_in : Piece → Option (ℕ × List ℕ)
+member_in field = if field.number == 1 || field.number == 2 || field.number == 3
+    then option_map (λ body. (field.number, body)) (body_in field.content) else None
+
+-- the occurrences of the members, in order; other fields are passed over
+abbrev pub members : List Part → List (ℕ × List ℕ)
+members ps = filter_map (λ p. member_in p.field) ps
+
+-- the longest end of occurrences that is of one number alone: the number, and the bodies
+abbrev pub last_run : List (ℕ × List ℕ) → Option (ℕ × List (List ℕ))
+last_run [] = None
+last_run (m ∷ ms) = if list_all (λ x. x.0 == m.0) ms then Some (m.0, map (λ x. x.1) (m ∷ ms))
+    else last_run ms
+
+-- the member that counts: the number of its last occurrence, and the bodies that come after the last
+-- occurrence of any other member
+abbrev pub member_bodies : List Part → Option (ℕ × List (List ℕ))
+member_bodies ps = last_run (members ps)
 
 -- the fields that a message knows, by number and wire type
 abbrev pub Row : Type 0

@@ -10,7 +10,7 @@ use hb_wire::{Field, NoMemory, next_field};
 use std::alloc::Global;
 
 /// A message that is read one field after another.
-pub(crate) trait Message {
+pub trait Message {
     ghost use Rattle.std.specs.Prelude.{ℕ, List};
     ghost use Rattle.hb_flow.specs.Fields.{Part};
     ghost use Rattle.hb_flow.specs.Faults.{Check};
@@ -44,7 +44,7 @@ pub(crate) trait Message {
 }
 
 /// Takes all the fields of the bytes, which stand at this place.
-pub(crate) fn merge<M: Message>(
+pub fn merge<M: Message>(
     alloc: Global,
     message: &mut M,
     bytes: &[u8],

@@ -1,10 +1,10 @@
 //! What a field is read as: a text, a part of a message that came before, or bytes that are kept.
 ghost use Rattle.std.specs.Prelude.{◌≡◌, ◌+◌, ◌<◌, ◌^◌, ◌++◌, length, None, IfOk};
-ghost use Rattle.hb_flow.specs.Faults.{Answers, message_fault, text_fault, stamp_check, flow_check};
-ghost use Rattle.hb_flow.specs.Steps.{no_flow, stamp_merged, flow_merged};
+ghost use Rattle.hb_flow.specs.Faults.{Answers, message_fault, text_fault, stamp_check, int32_value_check};
+ghost use Rattle.hb_flow.specs.Steps.{no_flow, no_lost_event, stamp_merged, int32_value_merged};
 
 use crate::message::merge;
-use crate::{DecodeFault, Flow, Stamp};
+use crate::{DecodeFault, Flow, Int32Value, LostEvent, Stamp};
 use hb_wire::{NoMemory, Seq, Text};
 use std::alloc::Global;
 
@@ -22,7 +22,7 @@ pub(crate) fn text_of(alloc: Global, body: &[u8], place: usize) -> Result<Text, 
 }
 
 /// The moment with all the fields of one more body, which stands at this place.
-pub(crate) fn merge_stamp(
+pub fn merge_stamp(
     alloc: Global,
     before: Option<Stamp>,
     body: &[u8],
@@ -40,7 +40,7 @@ pub(crate) fn merge_stamp(
 }
 
 /// The flow of no field.
-fn no_flow(alloc: Global) -> Result<Flow, NoMemory>
+pub(crate) fn no_flow(alloc: Global) -> Result<Flow, NoMemory>
     ensures { IfOk result (λ flow. flow ≡ no_flow) }
 {
     Ok(Flow {
@@ -51,32 +51,38 @@ fn no_flow(alloc: Global) -> Result<Flow, NoMemory>
     })
 }
 
-/// The flow with all the fields of one more body, which stands at this place.
-pub(crate) fn merge_flow(
+/// The wrapper with all the fields of one more body, which stands at this place.
+pub(crate) fn merge_int32_value(
     alloc: Global,
-    before: Option<Flow>,
+    before: Option<Int32Value>,
     body: &[u8],
     place: usize,
-) -> Result<Flow, DecodeFault>
+) -> Result<Int32Value, DecodeFault>
     requires { place + length body.now < 2 ^ 64 }
-    ensures { Answers result (message_fault flow_check place body.now)
-        (λ flow. flow ≡ flow_merged before body.now) }
+    ensures { Answers result (message_fault int32_value_check place body.now)
+        (λ value. value ≡ int32_value_merged before body.now) }
 {
-    let mut flow = match before {
-        Some(flow) => flow,
-        None => match no_flow(alloc) {
-            Ok(flow) => flow,
-            Err(_) => return Err(DecodeFault::NoMemory),
-        },
-    };
-    match merge(alloc, &mut flow, body, place) {
-        Ok(()) => Ok(flow),
+    let mut value = before.unwrap_or(Int32Value { value: 0 });
+    match merge(alloc, &mut value, body, place) {
+        Ok(()) => Ok(value),
         Err(fault) => Err(fault),
     }
 }
 
+/// The lost events of no field.
+pub(crate) fn no_lost_event(alloc: Global) -> Result<LostEvent, NoMemory>
+    ensures { IfOk result (λ event. event ≡ no_lost_event) }
+{
+    Ok(LostEvent {
+        source: 0,
+        num_events_lost: 0,
+        cpu: None,
+        unknown: Seq::new(alloc)?,
+    })
+}
+
 /// Keeps the bytes of a field that is not known, behind those of the ones before it.
-pub(crate) fn keep_unknown(unknown: &mut Seq<u8>, raw: &[u8]) -> Result<(), DecodeFault>
+pub fn keep_unknown(unknown: &mut Seq<u8>, raw: &[u8]) -> Result<(), DecodeFault>
     ensures { Answers result None (λ _. unknown.new ≡ unknown.old ++ raw.now) }
 {
     match unknown.extend_from_slice(raw) {

@@ -5,17 +5,18 @@ ghost use Rattle.hb_flow.specs.Messages.{response_bytes};
 ghost use Rattle.hb_flow.specs.Steps.{response_after};
 
 use crate::message::{Message, merge};
-use crate::parts::{keep_unknown, merge_flow, merge_stamp, text_of};
+use crate::parts::{keep_unknown, merge_stamp, text_of};
+use crate::response_types::{put_member, take_flow, take_lost_events, take_status};
 use crate::writing::{put_optional, put_text, put_unknown};
-use crate::{DecodeFault, Flow, Stamp};
+use crate::{DecodeFault, ResponseTypes, Stamp};
 use hb_wire::{Field, NoMemory, Seq, Text};
 use std::alloc::Global;
 
-/// An answer with the flow that it holds, the node that saw it and when, and the bytes of its fields
-/// that are not known, in the order in which they came.
+/// An answer with what it tells of, the node that saw it and when, and the bytes of its fields that
+/// are not known, in the order in which they came.
 #[derive(Debug, Drop)]
 pub struct GetFlowsResponse {
-    pub flow: Option<Flow>,
+    pub response_types: Option<ResponseTypes>,
     pub node_name: Text,
     pub time: Option<Stamp>,
     pub unknown: Seq<u8>,
@@ -38,10 +39,13 @@ impl Message for GetFlowsResponse {
     ) -> Result<(), DecodeFault> {
         match field {
             Field::Body { number: 1, body } => {
-                match merge_flow(alloc, self.flow.take(), body, end - body.len()) {
-                    Ok(flow) => self.flow = Some(flow),
-                    Err(fault) => return Err(fault),
-                }
+                return take_flow(alloc, &mut self.response_types, body, end - body.len());
+            }
+            Field::Body { number: 2, body } => {
+                return take_status(alloc, &mut self.response_types, body);
+            }
+            Field::Body { number: 3, body } => {
+                return take_lost_events(alloc, &mut self.response_types, body, end - body.len());
             }
             Field::Body { number: 1000, body } => match text_of(alloc, body, end - body.len()) {
                 Ok(node_name) => self.node_name = node_name,
@@ -60,7 +64,7 @@ impl Message for GetFlowsResponse {
 
     #[tactic(auto, using(crate::proofs::Spellings::spelling_kept), unfolding(crate::specs::Messages::response_bytes))]
     fn put(&self, out: &mut Vec<u8>) -> Result<(), NoMemory> {
-        put_optional(out, 1, &self.flow)?;
+        put_member(out, &self.response_types)?;
         put_text(out, 1000, self.node_name.as_str())?;
         put_optional(out, 1001, &self.time)?;
         put_unknown(out, &self.unknown)
@@ -86,7 +90,7 @@ impl GetFlowsResponse {
             return Err(DecodeFault::NoMemory);
         };
         let mut response = GetFlowsResponse {
-            flow: None,
+            response_types: None,
             node_name: Text::empty(alloc),
             time: None,
             unknown,

@@ -1,16 +1,33 @@
 //! Rows of bytes worked out by hand from the Protocol Buffers encoding guide.
 
+mod events;
+
 use super::*;
 use hb_wire::{Seq, Text};
 use std::alloc::Global;
 use std::process::Abort;
 use std::test::*;
 
-// A flow's time, verdict, uuid and bytes that are not known; an answer's flow, node name, time and
-// bytes that are not known.
+// A flow's time, verdict, uuid and bytes that are not known; the source, count, processor and bytes
+// that are not known of lost events; an answer's member, node name, time and bytes that are not known.
 type FlowRow<'a> = (Option<Stamp>, i32, &'a str, &'a [u8]);
 
-type Row<'a> = (Option<FlowRow<'a>>, &'a str, Option<Stamp>, &'a [u8]);
+type LostRow<'a> = (i32, u64, Option<i32>, &'a [u8]);
+
+#[derive(Clone, Copy, Debug, PartialEq)]
+enum MemberRow<'a> {
+    Flow(FlowRow<'a>),
+    NodeStatus(&'a [u8]),
+    LostEvents(LostRow<'a>),
+}
+
+type Row<'a> = (Option<MemberRow<'a>>, &'a str, Option<Stamp>, &'a [u8]);
+
+#[derive(Clone, Copy, Debug, PartialEq)]
+enum EventRow<'a> {
+    Flow(FlowRow<'a>),
+    Lost(LostRow<'a>, Option<Stamp>),
+}
 
 const NOTHING: Row<'static> = (None, "", None, &[]);
 
@@ -21,7 +38,7 @@ const WHOLE: [u8; 23] = [
 ];
 
 const WHOLE_ROW: Row<'static> = (
-    Some((Some(Stamp { secs: 1, nanos: 2 }), 1, "a", &[])),
+    Some(MemberRow::Flow((Some(Stamp { secs: 1, nanos: 2 }), 1, "a", &[]))),
     "n",
     Some(Stamp { secs: 3, nanos: 0 }),
     &[],
@@ -32,11 +49,34 @@ fn stamp(secs: i64, nanos: i32) -> Option<Stamp> {
 }
 
 fn flow(time: Option<Stamp>, verdict: i32, uuid: &str) -> Row<'_> {
-    (Some((time, verdict, uuid, &[])), "", None, &[])
+    (
+        Some(MemberRow::Flow((time, verdict, uuid, &[]))),
+        "",
+        None,
+        &[],
+    )
 }
 
 fn flow_beside(time: Option<Stamp>, verdict: i32, unknown: &[u8]) -> Row<'_> {
-    (Some((time, verdict, "", unknown)), "", None, &[])
+    (
+        Some(MemberRow::Flow((time, verdict, "", unknown))),
+        "",
+        None,
+        &[],
+    )
+}
+
+fn status(bytes: &[u8]) -> Row<'_> {
+    (Some(MemberRow::NodeStatus(bytes)), "", None, &[])
+}
+
+fn lost(source: i32, count: u64) -> Row<'static> {
+    lost_beside(source, count, "", &[])
+}
+
+fn lost_beside<'a>(source: i32, count: u64, node_name: &'a str, unknown: &'a [u8]) -> Row<'a> {
+    let member = MemberRow::LostEvents((source, count, None, &[]));
+    (Some(member), node_name, None, unknown)
 }
 
 fn time(secs: i64, nanos: i32) -> Row<'static> {
@@ -56,10 +96,34 @@ fn flow_row(flow: &Flow) -> FlowRow<'_> {
     (flow.time, flow.verdict, flow.uuid.as_str(), unknown)
 }
 
+fn lost_row(event: &LostEvent) -> LostRow<'_> {
+    let unknown = event.unknown.as_slice();
+    let cpu = match event.cpu {
+        None => None,
+        Some(cpu) => Some(cpu.value),
+    };
+    (event.source, event.num_events_lost, cpu, unknown)
+}
+
+fn member_row(member: &ResponseTypes) -> MemberRow<'_> {
+    match member {
+        ResponseTypes::Flow(flow) => MemberRow::Flow(flow_row(flow)),
+        ResponseTypes::NodeStatus(status) => MemberRow::NodeStatus(status.as_slice()),
+        ResponseTypes::LostEvents(event) => MemberRow::LostEvents(lost_row(event)),
+    }
+}
+
+fn event_row(event: &Event) -> EventRow<'_> {
+    match event {
+        Event::Flow(flow) => EventRow::Flow(flow_row(flow)),
+        Event::Lost(lost) => EventRow::Lost(lost_row(&lost.event), lost.time),
+    }
+}
+
 fn row_of(response: &GetFlowsResponse) -> Row<'_> {
-    let flow = response.flow.as_ref().map(flow_row);
+    let member = response.response_types.as_ref().map(member_row);
     let unknown = response.unknown.as_slice();
-    (flow, response.node_name.as_str(), response.time, unknown)
+    (member, response.node_name.as_str(), response.time, unknown)
 }
 
 fn kept(alloc: Global, bytes: &[u8]) -> Result<Seq<u8>, Fail> {
@@ -80,16 +144,49 @@ fn flow_of(alloc: Global, row: FlowRow<'_>) -> Result<Flow, Fail> {
     })
 }
 
-fn response_of(alloc: Global, row: Row<'_>) -> Result<GetFlowsResponse, Fail> {
-    let (flow, node_name, time, unknown) = row;
-    let flow = match flow {
+fn lost_of(alloc: Global, row: LostRow<'_>) -> Result<LostEvent, Fail> {
+    let (source, num_events_lost, cpu, unknown) = row;
+    let cpu = match cpu {
         None => None,
-        Some(flow) => Some(flow_of(alloc, flow)?),
+        Some(value) => Some(Int32Value { value }),
+    };
+    let unknown = kept(alloc, unknown)?;
+    Ok(LostEvent {
+        source,
+        num_events_lost,
+        cpu,
+        unknown,
+    })
+}
+
+fn member_of(alloc: Global, row: MemberRow<'_>) -> Result<ResponseTypes, Fail> {
+    match row {
+        MemberRow::Flow(flow) => Ok(ResponseTypes::Flow(flow_of(alloc, flow)?)),
+        MemberRow::NodeStatus(status) => Ok(ResponseTypes::NodeStatus(kept(alloc, status)?)),
+        MemberRow::LostEvents(event) => Ok(ResponseTypes::LostEvents(lost_of(alloc, event)?)),
+    }
+}
+
+fn event_of_row(alloc: Global, row: EventRow<'_>) -> Result<Event, Fail> {
+    match row {
+        EventRow::Flow(flow) => Ok(Event::Flow(flow_of(alloc, flow)?)),
+        EventRow::Lost(event, time) => {
+            let event = lost_of(alloc, event)?;
+            Ok(Event::Lost(Lost { event, time }))
+        }
+    }
+}
+
+fn response_of(alloc: Global, row: Row<'_>) -> Result<GetFlowsResponse, Fail> {
+    let (member, node_name, time, unknown) = row;
+    let response_types = match member {
+        None => None,
+        Some(member) => Some(member_of(alloc, member)?),
     };
     let node_name = Text::of(alloc, node_name)?;
     let unknown = kept(alloc, unknown)?;
     Ok(GetFlowsResponse {
-        flow,
+        response_types,
         node_name,
         time,
         unknown,
@@ -188,19 +285,19 @@ fn what_is_not_known_is_kept(rt: HostRuntime) -> Result<(), Fail> {
         &rt,
         rt.alloc(),
         &[
-            // Number 3 of each wire type, before a time, behind it and around it.
-            (&[0x18, 7, 0xca, 0x3e, 0], time_beside(0, 0, &[0x18, 7])),
+            // Number 4 of each wire type, before a time, behind it and around it.
+            (&[0x20, 7, 0xca, 0x3e, 0], time_beside(0, 0, &[0x20, 7])),
             (
-                &[0x19, 1, 2, 3, 4, 5, 6, 7, 8, 0xca, 0x3e, 0],
-                time_beside(0, 0, &[0x19, 1, 2, 3, 4, 5, 6, 7, 8]),
+                &[0x21, 1, 2, 3, 4, 5, 6, 7, 8, 0xca, 0x3e, 0],
+                time_beside(0, 0, &[0x21, 1, 2, 3, 4, 5, 6, 7, 8]),
             ),
             (
-                &[0xca, 0x3e, 0, 0x1a, 2, 0x0b, 0xff],
-                time_beside(0, 0, &[0x1a, 2, 0x0b, 0xff]),
+                &[0xca, 0x3e, 0, 0x22, 2, 0x0b, 0xff],
+                time_beside(0, 0, &[0x22, 2, 0x0b, 0xff]),
             ),
             (
-                &[0x1d, 9, 8, 7, 6, 0xca, 0x3e, 0, 0x18, 7],
-                time_beside(0, 0, &[0x1d, 9, 8, 7, 6, 0x18, 7]),
+                &[0x25, 9, 8, 7, 6, 0xca, 0x3e, 0, 0x20, 7],
+                time_beside(0, 0, &[0x25, 9, 8, 7, 6, 0x20, 7]),
             ),
             // The greatest number, and a tag and a number that are longer than needed.
             (
@@ -213,6 +310,10 @@ fn what_is_not_known_is_kept(rt: HostRuntime) -> Result<(), Fail> {
             ),
             // Known numbers, with a wire type that is not theirs.
             (&[0x08, 5], only(&[0x08, 5])),
+            (
+                &[0x10, 5, 0x1d, 9, 8, 7, 6],
+                only(&[0x10, 5, 0x1d, 9, 8, 7, 6]),
+            ),
             (&[0xc0, 0x3e, 1], only(&[0xc0, 0x3e, 1])),
             (
                 &[0xcd, 0x3e, 0, 0, 0, 0, 0x08, 5],
@@ -246,7 +347,7 @@ fn a_flow_keeps_what_is_not_known(rt: HostRuntime) -> Result<(), Fail> {
             (
                 &[0x0a, 2, 0x38, 1, 0x18, 7, 0x0a, 4, 0x38, 2, 0x10, 1],
                 (
-                    Some((None, 1, "", &[0x38, 1, 0x38, 2])),
+                    Some(MemberRow::Flow((None, 1, "", &[0x38, 1, 0x38, 2]))),
                     "",
                     None,
                     &[0x18, 7],
@@ -353,31 +454,12 @@ fn a_text_that_is_not_utf8_has_its_place(rt: HostRuntime) {
     }
 }
 
-#[test]
-fn answers_are_written(rt: HostRuntime) -> Result<(), Fail> {
-    let negatives = [
-        0x0a, 0x0b, 0x10, 0xff, 0xff, 0xff, 0xff, 0xff, 0xff, 0xff, 0xff, 0xff, 0x01, 0xca, 0x3e,
-        0x16, 0x08, 0xff, 0xff, 0xff, 0xff, 0xff, 0xff, 0xff, 0xff, 0xff, 0x01, 0x10, 0xff, 0xff,
-        0xff, 0xff, 0xff, 0xff, 0xff, 0xff, 0xff, 0x01,
-    ];
-    let cases: [(Row<'_>, &[u8]); 6] = [
-        (NOTHING, &[]),
-        (flow(None, 0, ""), &[0x0a, 0]),
-        (flow(stamp(0, 0), 0, ""), &[0x0a, 2, 0x0a, 0]),
-        (
-            (None, "n", stamp(0, 0), &[]),
-            &[0xc2, 0x3e, 1, b'n', 0xca, 0x3e, 0],
-        ),
-        (WHOLE_ROW, &WHOLE),
-        (
-            (Some((None, -1, "", &[])), "", stamp(-1, -1), &[]),
-            &negatives,
-        ),
-    ];
-    for (row, want) in &cases {
-        let response = response_of(rt.alloc(), *row)?;
-        let mut out = Vec::new(rt.alloc());
-        let mut wanted = Vec::new(rt.alloc());
+// Written behind a byte that stays.
+fn all_written(rt: &impl Abort, alloc: Global, cases: &[(Row<'_>, &[u8])]) -> Result<(), Fail> {
+    for (row, want) in cases {
+        let response = response_of(alloc, *row)?;
+        let mut out = Vec::new(alloc);
+        let mut wanted = Vec::new(alloc);
         out.push(0xff)?;
         wanted.push(0xff)?;
         wanted.extend_from_slice(want)?;
@@ -387,8 +469,63 @@ fn answers_are_written(rt: HostRuntime) -> Result<(), Fail> {
     Ok(())
 }
 
+#[test]
+fn answers_are_written(rt: HostRuntime) -> Result<(), Fail> {
+    let negatives = [
+        0x0a, 0x0b, 0x10, 0xff, 0xff, 0xff, 0xff, 0xff, 0xff, 0xff, 0xff, 0xff, 0x01, 0xca, 0x3e,
+        0x16, 0x08, 0xff, 0xff, 0xff, 0xff, 0xff, 0xff, 0xff, 0xff, 0xff, 0x01, 0x10, 0xff, 0xff,
+        0xff, 0xff, 0xff, 0xff, 0xff, 0xff, 0xff, 0x01,
+    ];
+    let negative = MemberRow::Flow((None, -1, "", &[]));
+    all_written(
+        &rt,
+        rt.alloc(),
+        &[
+            (NOTHING, &[]),
+            (flow(None, 0, ""), &[0x0a, 0]),
+            (flow(stamp(0, 0), 0, ""), &[0x0a, 2, 0x0a, 0]),
+            (
+                (None, "n", stamp(0, 0), &[]),
+                &[0xc2, 0x3e, 1, b'n', 0xca, 0x3e, 0],
+            ),
+            (WHOLE_ROW, &WHOLE),
+            ((Some(negative), "", stamp(-1, -1), &[]), &negatives),
+        ],
+    )
+}
+
+#[test]
+fn members_are_written(rt: HostRuntime) -> Result<(), Fail> {
+    let told = MemberRow::LostEvents((3, 3, Some(0), &[0x20, 5]));
+    all_written(
+        &rt,
+        rt.alloc(),
+        &[
+            (status(&[]), &[0x12, 0]),
+            (status(&[0x0b, 0xff]), &[0x12, 2, 0x0b, 0xff]),
+            (lost(0, 0), &[0x1a, 0]),
+            (
+                (Some(told), "n", stamp(3, 0), &[]),
+                &[
+                    0x1a, 8, 0x08, 3, 0x10, 3, 0x1a, 0, 0x20, 5, 0xc2, 0x3e, 1, b'n', 0xca, 0x3e,
+                    2, 0x08, 3,
+                ],
+            ),
+        ],
+    )
+}
+
 // Messages, and how they are written anew.
-const ANEW: [(&[u8], &[u8]); 7] = [
+const ANEW: [(&[u8], &[u8]); 9] = [
+    // The members of a oneof: the last one, its bodies joined, stands before the time.
+    (
+        &[0xca, 0x3e, 0, 0x0a, 0, 0x1a, 2, 0x10, 5, 0x1a, 2, 0x08, 3],
+        &[0x1a, 4, 0x08, 3, 0x10, 5, 0xca, 0x3e, 0],
+    ),
+    (
+        &[0x1a, 0, 0x12, 1, 0x0b, 0xc2, 0x3e, 1, b'n', 0x12, 1, 0xff],
+        &[0x12, 2, 0x0b, 0xff, 0xc2, 0x3e, 1, b'n'],
+    ),
     // The answer's own behind its time, the flow's behind its uuid.
     (
         &[0x18, 7, 0xca, 0x3e, 0, 0xc2, 0x3e, 1, b'n'],
@@ -455,54 +592,5 @@ fn a_length_of_two_bytes(rt: HostRuntime) -> Result<(), Fail> {
     want.extend_from_slice(&[0x0a, 0x84, 0x01, 0x92, 0x02, 0x80, 0x01])?;
     want.extend_from_slice(&letters)?;
     assert_eq!(rt; out.as_slice(), want.as_slice());
-    Ok(())
-}
-
-#[test]
-fn records_of_flows(rt: HostRuntime) -> Result<(), Fail> {
-    let row: FlowRow<'_> = (stamp(1, 0), 1, "0", &[]);
-    let flow = flow_of(rt.alloc(), row)?;
-    let mut record = Vec::new(rt.alloc());
-    record_of(&flow, &mut record)?;
-    let want = [
-        0x0a, 0x0a, 0x0a, 0x02, 0x08, 0x01, 0x10, 0x01, 0x92, 0x02, 0x01, 0x30,
-    ];
-    assert_eq!(rt; record.as_slice(), want.as_slice());
-    let cases: [(&[u8], Result<Option<FlowRow<'_>>, DecodeFault>); 5] = [
-        (&want, Ok(Some(row))),
-        // Other events are not known.
-        (&[0x12, 0x00], Ok(None)),
-        (&[], Ok(None)),
-        (&[0x0a, 0x00], Ok(Some((None, 0, "", &[])))),
-        (&want[..11], Err(DecodeFault::Malformed { at: 0 })),
-    ];
-    for (bytes, want) in &cases {
-        let found = event_of(rt.alloc(), bytes);
-        match &found {
-            Ok(flow) => assert_eq!(rt; Ok(flow.as_ref().map(flow_row)), *want, "at {bytes:?}"),
-            Err(fault) => assert_eq!(rt; Err(*fault), *want, "at {bytes:?}"),
-        }
-    }
-    Ok(())
-}
-
-#[test]
-fn records_keep_what_is_not_known(rt: HostRuntime) -> Result<(), Fail> {
-    let cases: [(FlowRow<'_>, &[u8]); 2] = [
-        ((None, 0, "", &[0x38, 5]), &[0x0a, 2, 0x38, 5]),
-        (
-            (stamp(1, 0), 2, "a", &[0x38, 5, 0x1a, 1, 0xff]),
-            &[
-                0x0a, 15, 0x0a, 2, 0x08, 1, 0x10, 2, 0x92, 0x02, 1, b'a', 0x38, 5, 0x1a, 1, 0xff,
-            ],
-        ),
-    ];
-    for (row, want) in &cases {
-        let mut record = Vec::new(rt.alloc());
-        record_of(&flow_of(rt.alloc(), *row)?, &mut record)?;
-        assert_eq!(rt; record.as_slice(), *want, "at {row:?}");
-        let found = event_of(rt.alloc(), want).ok().ok_or("a record")?;
-        assert_eq!(rt; found.as_ref().map(flow_row), Some(*row), "at {row:?}");
-    }
     Ok(())
 }

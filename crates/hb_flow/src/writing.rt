@@ -13,7 +13,7 @@ use hb_wire::{NoMemory, Seq, write_body, write_number, write_tag, write_varint};
 const BODY: u8 = 2;
 
 /// A number, where it is not 0.
-pub(crate) fn put_number(out: &mut Vec<u8>, number: u32, value: u64) -> Result<(), NoMemory>
+pub fn put_number(out: &mut Vec<u8>, number: u32, value: u64) -> Result<(), NoMemory>
     requires { IsNumber number }
     ensures ok { OnOk result (out.new.items ≡ out.old.items
         ++ spelling (number_field number value)) }
@@ -39,7 +39,7 @@ pub(crate) fn put_text(out: &mut Vec<u8>, number: u32, text: &str) -> Result<(),
 }
 
 /// The bytes of the fields that are not known.
-pub(crate) fn put_unknown(out: &mut Vec<u8>, unknown: &Seq<u8>) -> Result<(), NoMemory>
+pub fn put_unknown(out: &mut Vec<u8>, unknown: &Seq<u8>) -> Result<(), NoMemory>
     ensures ok { OnOk result (out.new.items ≡ out.old.items ++ unknown.now) }
     ensures front { take (length out.old.items) out.new.items ≡ out.old.items }
 {
@@ -48,7 +48,7 @@ pub(crate) fn put_unknown(out: &mut Vec<u8>, unknown: &Seq<u8>) -> Result<(), No
 }
 
 /// A message, where there is one.
-pub(crate) fn put_optional<M: Message>(
+pub fn put_optional<M: Message>(
     out: &mut Vec<u8>,
     number: u32,
     part: &Option<M>,

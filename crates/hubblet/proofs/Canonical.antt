@@ -6,14 +6,13 @@ use Rattle.std.specs.List.{AllByRecursion, cons_option, flat_map}
 use Rattle.std.proofs.lemmas.List.{append-nil, take_at}
 use Rattle.hb_wire.specs.Varint.{AreBytes}
 use Rattle.hb_wire.proofs.FieldLemmas.{AreBytes_take}
-use Rattle.hb_flow.specs.Messages.{read_response, response_bytes, record_bytes, ResponseFits}
+use Rattle.hb_flow.specs.Messages.{read_response, response_bytes, ResponseFits}
 use Rattle.hb_flow.specs.declared.response.GetFlowsResponse.{GetFlowsResponse}
 use Rattle.hb_flow.proofs.Again.{response_again, response_clean}
 use Rattle.hb_flow.proofs.Fitting.{response_fits}
 use Rattle.hubblet.specs.Frames.{Frame, IsFrame, frame_bytes, message_frame, message_in, messages}
-use Rattle.hubblet.specs.Recording.{IsTaken, Recorded, canonical}
+use Rattle.hubblet.specs.Recording.{IsOtherMember, IsTaken, Recorded, canonical}
 use Rattle.hubblet.proofs.Cuts.{nothing_starts, frames_after, rest_bytes}
-use Rattle.hubblet.proofs.OtherEvents.{others_kept, others_again}
 
 -- ---- a message and the canonical spelling of its answer
 
@@ -38,8 +37,7 @@ taken_again message are taken =
         no_fault = response_clean r (fits_of message are taken) (short_of message taken);
         short = subst (λ (x : GetFlowsResponse). length (response_bytes x) ≤ 65536) (sym again) taken.sound.short;
       };
-      no_other = others_again r (fits_of message are taken) (short_of message taken) ∙ others_kept message are ∙ taken.no_other;
-      kept = subst (λ (x : GetFlowsResponse). IfSome x.flow (λ f. length (record_bytes f) ≤ 8192)) (sym again) taken.kept;
+      kept = subst (λ (x : GetFlowsResponse). IsOtherMember x.response_types → ⊥) (sym again) taken.kept;
     }
 
 -- ---- the messages of a file are bytes

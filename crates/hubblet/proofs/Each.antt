@@ -1,17 +1,18 @@
 -- Each file is a recording, or bad at a place, or of another form.
-use Rattle.std.proofs.Common.{◌≡◌, ◌⊎◌, inl, inr, ℕ, zero, suc, ◌≤◌, List, [], ◌∷◌, ◌++◌, length, map, Option, Some, None, refl, sym, ap, subst, ◌∙◌, arith}
-use Rattle.std.specs.Prelude.{IfSome, IsSome}
+use Rattle.std.proofs.Common.{◌≡◌, ◌⊎◌, inl, inr, ℕ, zero, suc, ◌≤◌, List, [], ◌∷◌, ◌++◌, length, map, Option, Some, None, refl, sym, subst, arith}
+use Rattle.std.specs.Prelude.{IsSome}
 use Rattle.std.specs.List.{flat_map}
 use Rattle.std.proofs.Math.Dec.{eqb-suc-zero}
 use Rattle.std.proofs.lemmas.Bool.{cases_lt}
 use Rattle.hb_wire.specs.Varint.{AreBytes}
 use Rattle.hb_flow.specs.Faults.{response_fault}
-use Rattle.hb_flow.specs.Messages.{read_response, response_bytes, record_bytes}
+use Rattle.hb_flow.specs.Messages.{read_response, response_bytes}
 use Rattle.hb_flow.specs.declared.fault.DecodeFault.{DecodeFault}
-use Rattle.hb_flow.specs.declared.flow.Flow.{Flow}
 use Rattle.hb_flow.specs.declared.response.GetFlowsResponse.{GetFlowsResponse}
+use Rattle.hb_flow.specs.declared.response_types.ResponseTypes.{ResponseTypes}
+use Rattle.hb_flow.specs.declared.response_types.ResponseTypes.TheVariants as member
 use Rattle.hubblet.specs.Frames.{Frame, StartsFrame, StartsNoFrame, frame_bytes, message_frame, messages}
-use Rattle.hubblet.specs.Recording.{IsSound, IsBad, other_events, IsTaken, IsOther, TakesFrames, Recorded, IsBadFront, IsBadRecord, IsOtherForm}
+use Rattle.hubblet.specs.Recording.{IsSound, IsBad, flow_record, IsOtherMember, IsTaken, IsOther, TakesFrames, Recorded, IsBadFront, IsBadRecord, IsOtherForm}
 use Rattle.hubblet.proofs.Cuts.{rest_bytes, starts_or_not}
 use Rattle.hubblet.proofs.Ingested.{frame_size, starts_message}
 use Rattle.hubblet.proofs.Recorded.{TakenFrame, takes_more, all_recorded}
@@ -21,19 +22,24 @@ use Rattle.hubblet.proofs.Recorded.{TakenFrame, takes_more, all_recorded}
 abbrev Told : List ℕ → Type 0
 Told message = IsTaken message ⊎ (IsBad message ⊎ IsOther message)
 
--- by the record of its flow
-told_by_flow : (message : List ℕ) (flow : Option Flow) → (read_response message).flow ≡ flow → IsSound message → other_events message ≡ [] → Told message
-told_by_flow message None is sound none = inl (record { sound = sound; no_other = none; kept = subst (λ (o : Option Flow). IfSome o (λ f. length (record_bytes f) ≤ 8192)) (sym is) tt })
-told_by_flow message (Some f) is sound none =
-    elim (cases_lt 8192 (length (record_bytes f))) [
-      | inl long ↦ inr (inr (record { sound = sound; other = inr (λ kept. let short : length (record_bytes f) ≤ 8192 = subst (λ (o : Option Flow). IfSome o (λ f. length (record_bytes f) ≤ 8192)) is kept in omega (arith, short, long)) }))
-      | inr short ↦ inl (record { sound = sound; no_other = none; kept = subst (λ (o : Option Flow). IfSome o (λ f. length (record_bytes f) ≤ 8192)) (sym is) short })
+-- what an answer holds is of another form or not
+other_or_not : (held : Option ResponseTypes) → IsOtherMember held ⊎ (IsOtherMember held → ⊥)
+other_or_not None = inr (λ other. other)
+other_or_not (Some (member.Flow f)) =
+    elim (cases_lt 8192 (length (flow_record f))) [
+      | inl long ↦ inl long
+      | inr short ↦ inr (λ long. omega (arith, short, long))
     ]
+other_or_not (Some (member.NodeStatus status)) = inl tt
+other_or_not (Some (member.LostEvents e)) = inl tt
 
--- by its other events
-told_by_events : (message : List ℕ) (events : List (List ℕ)) → other_events message ≡ events → IsSound message → Told message
-told_by_events message [] is sound = told_by_flow message (read_response message).flow refl sound is
-told_by_events message (e ∷ events) is sound = inr (inr (record { sound = sound; other = inl (λ none. omega (arith, ap length (sym is ∙ none))) }))
+-- by what it holds
+told_by_member : (message : List ℕ) → IsSound message → Told message
+told_by_member message sound =
+    elim (other_or_not (read_response message).response_types) [
+      | inl other ↦ inr (inr (record { sound = sound; other = other }))
+      | inr kept ↦ inl (record { sound = sound; kept = kept })
+    ]
 
 -- by its fault, and its length when it is spelled anew
 told_by_fault : (message : List ℕ) (fault : Option DecodeFault) → response_fault message ≡ fault → Told message
@@ -41,7 +47,7 @@ told_by_fault message (Some fault) is = inr (inl (inl (subst (λ (o : Option Dec
 told_by_fault message None is =
     elim (cases_lt 65536 (length (response_bytes (read_response message)))) [
       | inl long ↦ inr (inl (inr long))
-      | inr short ↦ told_by_events message (other_events message) refl (record { no_fault = is; short = short })
+      | inr short ↦ told_by_member message (record { no_fault = is; short = short })
     ]
 
 -- ---- a file

@@ -4,12 +4,12 @@ use Rattle.std.specs.List.{cons_option, flat_map}
 use Rattle.std.proofs.Math.Dec.{eqb-suc-zero}
 use Rattle.std.proofs.lemmas.List.{append-nil, map-append, length-map}
 use Rattle.std.proofs.lemmas.List.Elements.{filter_map-append}
-use Rattle.hb_flow.specs.Messages.{read_response, record_bytes}
+use Rattle.hb_flow.specs.Messages.{read_response}
 use Rattle.hb_flow.specs.declared.flow.Flow.{Flow}
 use Rattle.hb_flow.specs.declared.response.GetFlowsResponse.{GetFlowsResponse}
 use Rattle.hb_listring.specs.Log.{Kept, StandsFor}
 use Rattle.hubblet.specs.Frames.{Frame, StartsFrame, StartsNoFrame, frame_bytes, message_frame, message_in, messages}
-use Rattle.hubblet.specs.Recording.{TakesFrames, IsBadRecord, flows}
+use Rattle.hubblet.specs.Recording.{TakesFrames, IsBadRecord, flow_record, flow_in, flows}
 use Rattle.hubblet.specs.Ingest.{Logs, Ingests, TakesMessage, IsUntakenMessage, IsUntaken}
 use Rattle.hubblet.specs.declared.recording.Untaken.{Untaken}
 use Rattle.hubblet.specs.declared.recording.Untaken.TheVariants.{BadRecord, OtherForm, NoMemory}
@@ -71,7 +71,7 @@ ingested_message file rest message after old new has next takes =
     let rs = map read_response (messages has.frames) in
     let logged : flows_in (has.frames ++ f ∷ []) ≡ flows_in has.frames ++ flows (read_response message ∷ []) =
     ap (λ (ms : List (List ℕ)). flows (map read_response ms)) more ∙ ap flows (map-append read_response (messages has.frames) (message ∷ []))
-    ∙ filter_map-append (λ (r : GetFlowsResponse). r.flow) rs (read_response message ∷ []) in record {
+    ∙ filter_map-append (λ (r : GetFlowsResponse). flow_in r.response_types) rs (read_response message ∷ []) in record {
       frames = has.frames ++ f ∷ [];
       before = takes_more file rest after f has.frames has.before next takes.taken;
       logs = subst (Logs (StandsFor new)) (sym logged) (takes.logs (flows_in has.frames) has.logs);
@@ -79,7 +79,7 @@ ingested_message file rest message after old new has next takes =
 
 -- the ring has one record more at most
 one_flow : (r : GetFlowsResponse) → length (flows (r ∷ [])) ≤ 1
-one_flow r = one r.flow
+one_flow r = one (flow_in r.response_types)
   where
     one : (flow : Option Flow) → length (cons_option flow []) ≤ 1
     one None = omega arith
@@ -93,8 +93,8 @@ written_with file rest message old new has takes =
       arith,
       has.logs.stands.0,
       (takes.logs log has.logs).stands.0,
-      length-map log record_bytes,
-      length-map (log ++ more) record_bytes,
+      length-map log flow_record,
+      length-map (log ++ more) flow_record,
       length-append log more,
       one_flow (read_response message),
     )

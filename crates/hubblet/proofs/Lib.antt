@@ -5,7 +5,6 @@ pub mod Cuts
 pub mod Each
 pub mod FourWords
 pub mod Ingested
-pub mod OtherEvents
 pub mod Recorded
 pub mod Records
 pub mod Sizes

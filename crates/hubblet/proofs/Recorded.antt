@@ -1,5 +1,5 @@
 -- A file is a recording of one list of answers, or bad at one place, or of another form, and only one of these.
-use Rattle.std.proofs.Common.{◌≡◌, ◌⊎◌, inl, inr, ℕ, List, [], ◌∷◌, ◌++◌, length, map, Option, Some, None, refl, sym, ap, subst, ◌∙◌, arith}
+use Rattle.std.proofs.Common.{◌≡◌, inl, inr, ℕ, List, [], ◌∷◌, ◌++◌, length, map, Option, Some, None, refl, sym, ap, subst, ◌∙◌, arith}
 use Rattle.std.specs.Prelude.{IfSome, IsSome}
 use Rattle.std.specs.List.{AllByRecursion, cons_option, flat_map}
 use Rattle.std.proofs.lemmas.List.{nil_from_length}
@@ -10,7 +10,7 @@ use Rattle.hb_flow.specs.Messages.{read_response}
 use Rattle.hb_flow.specs.declared.fault.DecodeFault.{DecodeFault}
 use Rattle.hb_flow.specs.declared.response.GetFlowsResponse.{GetFlowsResponse}
 use Rattle.hubblet.specs.Frames.{Frame, StartsFrame, frame_bytes, message_frame, message_in, messages}
-use Rattle.hubblet.specs.Recording.{IsSound, IsBad, other_events, KeepsFlow, IsTaken, IsOther, TakesFrames, Recorded, IsBadFront, IsBadRecord, IsOtherForm}
+use Rattle.hubblet.specs.Recording.{IsSound, IsBad, IsTaken, IsOther, TakesFrames, Recorded, IsBadFront, IsBadRecord, IsOtherForm}
 use Rattle.hubblet.proofs.Cuts.{Stops, same_front, first_once, frames_with, nothing_starts}
 
 -- ---- a message is one thing only
@@ -24,11 +24,7 @@ bad_unsound message (inl fault) sound = no_fault_told (response_fault message) f
 bad_unsound message (inr long) sound = omega (arith, long, sound.short)
 
 other_untaken : (message : List ℕ) → IsOther message → IsTaken message → ⊥
-other_untaken message other taken = either other.other
-  where
-    either : ((other_events message ≡ [] → ⊥) ⊎ (KeepsFlow message → ⊥)) → ⊥
-    either (inl some) = some taken.no_other
-    either (inr long) = long taken.kept
+other_untaken message other taken = taken.kept other.other
 
 -- ---- what begins a file
 

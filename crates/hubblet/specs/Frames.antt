@@ -1,18 +1,14 @@
 -- Frames, and how bytes are cut into them.
-use Rattle.std.specs.Prelude.{◌≡◌, ℕ, ◌≤◌, List, ◌∷◌, ◌++◌, length, Option, Some, None, ◌==◌, if◌then◌else◌}
-use Rattle.std.specs.Int.{w32, to_be_bytes}
+use Rattle.std.specs.Prelude.{◌≡◌, ℕ, ◌≤◌, List, ◌++◌, length, Option, Some, None, ◌==◌, if◌then◌else◌}
 use Rattle.std.specs.List.{flat_map, filter_map, AllByRecursion}
-use Rattle.hubblet.specs.Limits.{greatest_kind, longest_body}
-
--- a frame's bytes: its kind, the length of its body in four bytes, the highest first, and its body
-abbrev pub frame : ℕ → List ℕ → List ℕ
-frame kind body = kind ∷ to_be_bytes w32 (length body) ++ body
+use Rattle.hb_frame.specs.Frames.{frame, greatest_kind, longest_body}
 
 -- a frame, apart from where its bytes stand
 pub record Frame : Type 0 where
   pub kind : ℕ
   pub body : List ℕ
 
+-- its bytes
 abbrev pub frame_bytes : Frame → List ℕ
 frame_bytes f = frame f.kind f.body
 

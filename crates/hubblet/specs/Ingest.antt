@@ -2,6 +2,7 @@
 use Rattle.std.specs.Prelude.{◌≡◌, ℕ, ◌<◌, ◌≤◌, List, ◌∷◌, [], ◌++◌, length, map}
 use Rattle.std.specs.List.{AllByRecursion}
 use Rattle.hb_flow.specs.Messages.{read_response, record_bytes, FlowFits}
+use Rattle.hb_flow.specs.declared.event.Event.{Event}
 use Rattle.hb_flow.specs.declared.flow.Flow.{Flow}
 use Rattle.hb_flow.specs.declared.response.GetFlowsResponse.{GetFlowsResponse}
 use Rattle.hb_listring.specs.Log.{Kept, StandsFor}
@@ -9,16 +10,16 @@ use Rattle.hubblet.specs.declared.recording.Untaken.{Untaken}
 use Rattle.hubblet.specs.declared.recording.Untaken.TheVariants.{BadRecord, OtherForm, NoMemory}
 use Rattle.hubblet.specs.Limits.{longest_record}
 use Rattle.hubblet.specs.Observe.{output}
-use Rattle.hubblet.specs.Recording.{IsBad, IsTaken, IsOther, Recorded, IsBadRecord, IsOtherForm, flows}
+use Rattle.hubblet.specs.Recording.{IsBad, IsTaken, IsOther, Recorded, IsBadRecord, IsOtherForm, flow_record, flows}
 
 -- a flow whose record a ring keeps
 pub record IsKept (f : Flow) : Type 0 where
   pub fits : FlowFits f
-  pub short : length (record_bytes f) ≤ longest_record
+  pub short : length (flow_record f) ≤ longest_record
 
 -- the log that a ring stands for, or that its reader tells, are the records of these flows
 pub record Logs (stands_for : List (List ℕ) → Type 0) (log : List Flow) : Type 0 where
-  pub stands : stands_for (map record_bytes log)
+  pub stands : stands_for (map flow_record log)
   pub kept : AllByRecursion IsKept log
 
 -- the file is a recording, and the ring has its flows
@@ -44,11 +45,11 @@ IsUntakenMessage message at (BadRecord place) = (place ≡ at) × IsBad message
 IsUntakenMessage message at OtherForm = IsOther message
 IsUntakenMessage message at NoMemory = Unit {0}
 
--- why a flow was not kept: its record is too long, or memory was refused
-abbrev pub IsUnkept : Flow → Untaken → Type 0
-IsUnkept flow (BadRecord at) = ⊥
-IsUnkept flow OtherForm = longest_record < length (record_bytes flow)
-IsUnkept flow NoMemory = Unit {0}
+-- why an event was not kept: its record is too long, or memory was refused
+abbrev pub IsUnkept : Event → Untaken → Type 0
+IsUnkept event (BadRecord at) = ⊥
+IsUnkept event OtherForm = longest_record < length (record_bytes event)
+IsUnkept event NoMemory = Unit {0}
 
 -- why a file was not taken
 abbrev pub IsUntaken : List ℕ → Untaken → Type 0

@@ -5,14 +5,6 @@ use Rattle.std.specs.Prelude.{ℕ, ◌^◌}
 abbrev pub largest_file : ℕ
 largest_file = 2 ^ 30
 
--- the kinds of a frame: 0 is a message, 1 a call, 2 a status and 3 a cancel
-abbrev pub greatest_kind : ℕ
-greatest_kind = 3
-
--- the bytes of a frame's body, at most
-abbrev pub longest_body : ℕ
-longest_body = 65536
-
 -- the bytes of a flow's record, at most
 abbrev pub longest_record : ℕ
 longest_record = 8192

@@ -1,14 +1,16 @@
 -- A recording: frames, of which each message is an answer of a node.
-use Rattle.std.specs.Prelude.{◌≡◌, ◌⊎◌, ◌<◌, ◌≤◌, ◌||◌, ◌==◌, if◌then◌else◌, ℕ, List, [], length, map, Option, None, IsSome, IfSome}
+use Rattle.std.specs.Prelude.{◌≡◌, ◌⊎◌, ◌<◌, ◌≤◌, ℕ, List, [], length, map, Option, Some, None, IsSome}
 use Rattle.std.specs.List.{filter_map, flat_map, AllByRecursion}
-use Rattle.hb_wire.specs.Field.{Piece}
-use Rattle.hb_flow.specs.Fields.{parts, body_in}
 use Rattle.hb_flow.specs.Faults.{response_fault}
 use Rattle.hb_flow.specs.Messages.{read_response, response_bytes, record_bytes}
+use Rattle.hb_flow.specs.declared.event.Event.TheVariants as event
 use Rattle.hb_flow.specs.declared.flow.Flow.{Flow}
+use Rattle.hb_flow.specs.declared.response_types.ResponseTypes.{ResponseTypes}
+use Rattle.hb_flow.specs.declared.response_types.ResponseTypes.TheVariants as member
 use Rattle.hb_flow.specs.declared.response.GetFlowsResponse.{GetFlowsResponse}
 use Rattle.hubblet.specs.Frames.{Frame, StartsFrame, StartsNoFrame, StartsFrames, IsCut, frame_bytes, message_frame, messages}
-use Rattle.hubblet.specs.Limits.{longest_body, longest_record}
+use Rattle.hb_frame.specs.Frames.{longest_body}
+use Rattle.hubblet.specs.Limits.{longest_record}
 
 -- ---- a message
 
@@ -21,27 +23,27 @@ pub record IsSound (message : List ℕ) : Type 0 where
 abbrev pub IsBad : List ℕ → Type 0
 IsBad message = IsSome (response_fault message) ⊎ (longest_body < length (response_bytes (read_response message)))
 
--- the events of an answer that are no flow: a node's status, 2, and lost events, 3
-abbrev pub other_event : Piece → Option (List ℕ)
-other_event field = if field.number == 2 || field.number == 3 then body_in field.content else None
+-- the record that a ring keeps of a flow
+abbrev pub flow_record : Flow → List ℕ
+flow_record f = record_bytes (event.Flow f)
 
-abbrev pub other_events : List ℕ → List (List ℕ)
-other_events message = filter_map (λ p. other_event p.field) (parts message)
-
--- its flow, where it has one, has a record that the ring can keep
-abbrev pub KeepsFlow : List ℕ → Type 0
-KeepsFlow message = IfSome (read_response message).flow (λ f. length (record_bytes f) ≤ longest_record)
+-- what an answer holds is of another form: a node's status, lost events, or a flow whose record is too
+-- long for the ring
+abbrev pub IsOtherMember : Option ResponseTypes → Type 0
+IsOtherMember None = ⊥
+IsOtherMember (Some (member.Flow f)) = longest_record < length (flow_record f)
+IsOtherMember (Some (member.NodeStatus status)) = Unit {0}
+IsOtherMember (Some (member.LostEvents e)) = Unit {0}
 
 -- it is taken
 pub record IsTaken (message : List ℕ) : Type 0 where
   pub sound : IsSound message
-  pub no_other : other_events message ≡ []
-  pub kept : KeepsFlow message
+  pub kept : IsOtherMember (read_response message).response_types → ⊥
 
 -- it is sound, and has a form that is not taken
 pub record IsOther (message : List ℕ) : Type 0 where
   pub sound : IsSound message
-  pub other : (other_events message ≡ [] → ⊥) ⊎ (KeepsFlow message → ⊥)
+  pub other : IsOtherMember (read_response message).response_types
 
 -- ---- a file
 
@@ -81,9 +83,16 @@ pub record IsOtherForm (file : List ℕ) : Type 0 where
   pub next : StartsFrame rest (message_frame message) after
   pub other : IsOther message
 
+-- the flow that an answer holds, where it holds one
+abbrev pub flow_in : Option ResponseTypes → Option Flow
+flow_in None = None
+flow_in (Some (member.Flow f)) = Some f
+flow_in (Some (member.NodeStatus status)) = None
+flow_in (Some (member.LostEvents e)) = None
+
 -- the flows of a recording, in order: what a node logs
 abbrev pub flows : List GetFlowsResponse → List Flow
-flows responses = filter_map (λ r. r.flow) responses
+flows responses = filter_map (λ r. flow_in r.response_types) responses
 
 -- the frames of answers, each in its canonical spelling
 abbrev pub canonical : List GetFlowsResponse → List ℕ

@@ -4,12 +4,14 @@ use Rattle.std.specs.List.{flat_map}
 use Rattle.hb_flow.specs.Messages.{response_bytes}
 use Rattle.hb_flow.specs.declared.flow.Flow.{Flow}
 use Rattle.hb_flow.specs.declared.response.GetFlowsResponse.{GetFlowsResponse}
+use Rattle.hb_flow.specs.declared.response_types.ResponseTypes.TheVariants as member
 use Rattle.hb_listring.specs.Log.{window}
-use Rattle.hubblet.specs.Frames.{frame}
+use Rattle.hb_frame.specs.Frames.{frame}
 
 -- the answer that hands on a flow: with the node's name, and the flow's time where it has one
 abbrev pub handed_on : List ℕ → Flow → GetFlowsResponse
-handed_on name flow = record { flow = Some flow; node_name = name; time = flow.time; unknown = [] }
+handed_on name flow =
+    record { response_types = Some (member.Flow flow); node_name = name; time = flow.time; unknown = [] }
 
 -- its frame
 abbrev pub answer_frame : List ℕ → Flow → List ℕ

@@ -1,24 +1,24 @@
 //! Reading a recording into a ring.
-ghost use Rattle.std.specs.Prelude.{◌≡◌, ◌<◌, ◌≤◌, ◌^◌, ◌↔◌, ℕ, List, [], ◌∷◌, ◌++◌, length, true, false, is_some, IfOk, IfErr, OnOk};
-ghost use Rattle.hb_wire.specs.Field.{piece_of};
+ghost use Rattle.std.specs.Prelude.{◌≡◌, ◌<◌, ◌≤◌, ◌^◌, ◌↔◌, ℕ, List, [], ◌∷◌, ◌++◌, length, true, IfOk, IfErr, OnOk};
 ghost use Rattle.hb_flow.specs.Messages.{record_bytes, response_bytes};
 ghost use Rattle.hb_listring.specs.Log.{StandsFor};
-ghost use Rattle.hubblet.specs.Limits.{longest_body, longest_record};
-ghost use Rattle.hubblet.specs.Recording.{other_event, other_events};
+ghost use Rattle.hb_frame.specs.Frames.{longest_body};
+ghost use Rattle.hubblet.specs.Limits.{longest_record};
 ghost use Rattle.hubblet.specs.Ingest.{TakesMessage, IsUntakenMessage, IsUnkept, IsUntaken, Ingests};
 
-use crate::frames::{BODY, MESSAGE, first_frame};
-use hb_flow::{DecodeFault, Flow, GetFlowsResponse, record_of};
+use crate::frames::first_frame;
+use hb_flow::{DecodeFault, Event, GetFlowsResponse, ResponseTypes, record_of};
+use hb_frame::{BODY, MESSAGE};
 use hb_listring::ListRing;
 use hb_look::{Keep, Put};
-use hb_wire::{Field, NoMemory, next_field};
+use hb_wire::NoMemory;
 use std::alloc::Global;
 
 /// The greatest length of a flow's record, in bytes.
 pub const RECORD: usize = 8_192;
 
-/// The length up to which a text, or the bytes of fields that are not known, are small: an answer that
-/// has no longer ones fits a frame, whatever its other fields are.
+/// The length up to which a text, a node's status, or the bytes of fields that are not known, are small:
+/// an answer that has no longer ones fits a frame, whatever its other fields are.
 const SMALL: usize = 16_000;
 
 /// Why a recording was not taken.
@@ -90,11 +90,11 @@ fn take_message(
     if !fits_frame(&response, scratch)? {
         return Err(Untaken::BadRecord { at });
     }
-    if has_other_event(response.unknown.as_slice()) {
-        return Err(Untaken::OtherForm);
-    }
-    match &response.flow {
-        Some(flow) => keep(flow, scratch, ring),
+    let GetFlowsResponse { response_types, .. } = response;
+    match response_types {
+        Some(ResponseTypes::Flow(flow)) => keep(&Event::Flow(flow), scratch, ring),
+        Some(ResponseTypes::NodeStatus(_)) => Err(Untaken::OtherForm),
+        Some(ResponseTypes::LostEvents(_)) => Err(Untaken::OtherForm),
         None => Ok(()),
     }
 }
@@ -119,50 +119,28 @@ fn is_small(response: &GetFlowsResponse) -> bool
     if response.node_name.as_str().len() > SMALL || response.unknown.as_slice().len() > SMALL {
         return false;
     }
-    match &response.flow {
-        Some(flow) => flow.uuid.as_str().len() <= SMALL && flow.unknown.as_slice().len() <= SMALL,
+    match &response.response_types {
+        Some(ResponseTypes::Flow(flow)) => {
+            flow.uuid.as_str().len() <= SMALL && flow.unknown.as_slice().len() <= SMALL
+        }
+        Some(ResponseTypes::NodeStatus(status)) => status.as_slice().len() <= SMALL,
+        Some(ResponseTypes::LostEvents(event)) => event.unknown.as_slice().len() <= SMALL,
         None => true,
     }
 }
 
-/// Whether fields that are not known hold an event that is no flow: a node's status or lost events.
-fn has_other_event(fields: &[u8]) -> bool
-    ensures { (result ≡ false) ↔ (other_events fields.now ≡ []) }
-{
-    let mut at = 0;
-    while at < fields.len() {
-        let Ok((field, end)) = next_field(fields, at) else {
-            return false;
-        };
-        if is_other_event(field) {
-            return true;
-        }
-        at = end;
-    }
-    false
-}
-
-fn is_other_event(field: Field<'_>) -> bool
-    ensures { result ≡ is_some (other_event (piece_of field.entry)) }
-{
-    match field {
-        Field::Body { number, .. } => number == 2 || number == 3,
-        Field::Varint { .. } | Field::Fixed64 { .. } | Field::Fixed32 { .. } => false,
-    }
-}
-
-/// Puts the record of a flow into the ring.
-fn keep(flow: &Flow, record: &mut Vec<u8>, ring: &mut ListRing) -> Result<(), Untaken>
+/// Puts the record of an event into the ring.
+fn keep(event: &Event, record: &mut Vec<u8>, ring: &mut ListRing) -> Result<(), Untaken>
     requires slot { ring.old.slot ≡ RECORD }
     requires room { ring.old.written < 2 ^ 62 }
-    ensures ok { OnOk result ((length (record_bytes flow.now) ≤ longest_record)
+    ensures ok { OnOk result ((length (record_bytes event.now) ≤ longest_record)
         × ((log : List (List ℕ)) → StandsFor ring.old log
-        → StandsFor ring.new (log ++ record_bytes flow.now ∷ []))) }
-    ensures err { IfErr result (IsUnkept flow.now) }
+        → StandsFor ring.new (log ++ record_bytes event.now ∷ []))) }
+    ensures err { IfErr result (IsUnkept event.now) }
     ensures limits { (ring.new.capacity ≡ ring.old.capacity) × (ring.new.slot ≡ ring.old.slot) }
 {
     record.clear();
-    record_of(flow, record)?;
+    record_of(event, record)?;
     match ring.put(record.as_slice()) {
         Put::Done => Ok(()),
         Put::TooLong => Err(Untaken::OtherForm),

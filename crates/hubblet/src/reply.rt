@@ -1,14 +1,14 @@
 //! The reply of a node to a request for all the flows that it keeps.
 ghost use Rattle.std.specs.Prelude.{◌≡◌, ◌+◌, ◌^◌, ◌<◌, ◌≤◌, ◌++◌, ℕ, List, [], length, slice_get, IfOk, OnOk, Some};
-ghost use Rattle.hb_flow.specs.Messages.{record_bytes};
 ghost use Rattle.hb_flow.specs.declared.flow.Flow.{Flow};
 ghost use Rattle.hb_listring.specs.Log.{window_start};
+ghost use Rattle.hubblet.specs.Recording.{flow_record};
 ghost use Rattle.hubblet.specs.Reply.{answer_frame, reply};
 ghost use Rattle.hubblet.specs.Ingest.{IsKept, Logs};
 
-use crate::frames::{MESSAGE, put_frame};
 use crate::recording::RECORD;
-use hb_flow::{DecodeFault, Flow, GetFlowsResponse, event_of};
+use hb_flow::{DecodeFault, Event, Flow, GetFlowsResponse, ResponseTypes, event_of};
+use hb_frame::{MESSAGE, put_frame};
 use hb_look::{Look, Looked, Record};
 use hb_wire::{NoMemory, Seq, Text};
 use std::alloc::Global;
@@ -37,7 +37,7 @@ pub fn reply_of<R: Look>(alloc: Global, reader: &mut R, name: &str) -> Result<Ve
         return Err(NoMemory);
     };
     let mut answer = GetFlowsResponse {
-        flow: None,
+        response_types: None,
         node_name: Text::of(alloc, name)?,
         time: None,
         unknown: Seq::new(alloc)?,
@@ -85,11 +85,12 @@ fn flow_at<R: Look>(
 
 /// The flow whose record a ring kept.
 fn kept_flow(alloc: Global, bytes: &[u8]) -> Result<Flow, NoMemory>
-    requires { (flow : Flow) × IsKept flow × (bytes.now ≡ record_bytes flow) }
-    ensures { IfOk result (λ flow. IsKept flow × (bytes.now ≡ record_bytes flow)) }
+    requires { (flow : Flow) × IsKept flow × (bytes.now ≡ flow_record flow) }
+    ensures { IfOk result (λ flow. IsKept flow × (bytes.now ≡ flow_record flow)) }
 {
     match event_of(alloc, bytes) {
-        Ok(Some(flow)) => Ok(flow),
+        Ok(Some(Event::Flow(flow))) => Ok(flow),
+        Ok(Some(Event::Lost(_))) => unreachable!(),
         Ok(None) => unreachable!(),
         Err(DecodeFault::NoMemory) => Err(NoMemory),
         Err(DecodeFault::Malformed { .. }) => unreachable!(),
@@ -114,8 +115,11 @@ fn put_answer(
         × (answer.new.unknown ≡ answer.old.unknown) }
 {
     answer.time = flow.time;
-    answer.flow = Some(flow);
+    answer.response_types = Some(ResponseTypes::Flow(flow));
     body.clear();
     answer.write(body)?;
-    put_frame(frames, MESSAGE, body.as_slice())
+    let Ok(()) = put_frame(frames, MESSAGE, body.as_slice()) else {
+        return Err(NoMemory);
+    };
+    Ok(())
 }

@@ -5,6 +5,7 @@ use hb_wire::Text;
 use std::test::Fail;
 
 mod faults;
+mod sessions;
 mod spellings;
 
 /// The end of a reply.

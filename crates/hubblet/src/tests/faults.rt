@@ -183,6 +183,18 @@ const NO_ENDS: [&[u8]; 32] = [
     &[0x0a, 0x03, 0x92, 0x02, 0x01, 0x0a, 0x01, 0x61],
 ];
 
+/// Messages with lost events that have a field which no message can have, or which does not end.
+const NO_LOST_EVENTS: [&[u8]; 6] = [
+    // A group alone, before a flow that counts, before lost events that have none, and behind a flow.
+    &[0x1a, 0x02, 0x0b, 0x24],
+    &[0x1a, 0x02, 0x0b, 0x24, 0x0a, 0x02, 0x10, 0x01],
+    &[0x1a, 0x01, 0x0c, 0x1a, 0x02, 0x10, 0x01],
+    &[0x0a, 0x02, 0x10, 0x01, 0x1a, 0x02, 0x0b, 0x24],
+    // A count that is cut, and a processor of number 0.
+    &[0x1a, 0x02, 0x10, 0x80],
+    &[0x1a, 0x04, 0x1a, 0x02, 0x00, 0x00],
+];
+
 /// Messages with a text that is not UTF-8.
 const NO_TEXTS: [&[u8]; 12] = [
     // A uuid, also one that a later one replaces, in the same flow and in another.
@@ -213,6 +225,9 @@ fn bad_messages_have_the_place_of_their_frame(rt: HostRuntime) -> Result<(), Fai
     for message in NO_ENDS {
         assert!(rt; is_bad(rt, &frame_of(rt, message)?)?, "{message:?}");
     }
+    for message in NO_LOST_EVENTS {
+        assert!(rt; is_bad(rt, &frame_of(rt, message)?)?, "{message:?}");
+    }
     for message in NO_TEXTS {
         assert!(rt; is_bad(rt, &frame_of(rt, message)?)?, "{message:?}");
     }
@@ -236,21 +251,21 @@ fn a_place_counts_all_before_it(rt: HostRuntime) -> Result<(), Fail> {
     Ok(())
 }
 
-/// Messages with an event that is no flow: a node's status or lost events.
+/// Messages whose last member is no flow, but a node's status or lost events.
 const OTHER_EVENTS: [&[u8]; 13] = [
     &[0x12, 0x00],
     &[0x1a, 0x00],
-    // Before a flow and behind it.
-    &[0x12, 0x00, 0x0a, 0x02, 0x10, 0x01],
+    &[0x1a, 0x04, 0x08, 0x03, 0x10, 0x03],
+    // Behind a flow, also where lost events come before it too.
     &[0x0a, 0x02, 0x10, 0x01, 0x12, 0x00],
-    &[0x1a, 0x00, 0x0a, 0x02, 0x10, 0x01],
     &[0x0a, 0x02, 0x10, 0x01, 0x1a, 0x00],
+    &[0x0a, 0x02, 0x10, 0x01, 0x1a, 0x04, 0x08, 0x03, 0x10, 0x03],
+    &[0x1a, 0x00, 0x0a, 0x02, 0x10, 0x01, 0x1a, 0x00],
     // A tag and a length that are longer than needed.
     &[0x92, 0x00, 0x80, 0x00],
     &[0x9a, 0x80, 0x00, 0x00],
-    // Bodies that are no message.
+    // A status that is no message.
     &[0x12, 0x01, 0xff],
-    &[0x1a, 0x02, 0x0b, 0x24],
     // Behind what is not known, behind a name, and behind the same number of another wire type.
     &[0x22, 0x00, 0x20, 0x05, 0x1a, 0x00],
     &[0xc2, 0x3e, 0x01, 0x78, 0x12, 0x00],
@@ -341,7 +356,7 @@ const VERDICT_AND_TIME: [u8; 16] = [
 const TIME: [u8; 9] = [0xca, 0x3e, 0x06, 0x10, 0xff, 0xff, 0xff, 0xff, 0x0f];
 
 /// Messages of some bytes and then a field of so many letters, and what they are answered.
-const LONG: [(&[u8], &[u8], u32, (u8, &str)); 17] = [
+const LONG: [(&[u8], &[u8], u32, (u8, &str)); 22] = [
     // Behind a verdict a name: of 65,531 bytes and anew 65,536, of 65,532, and of 65,536.
     (&VERDICT, &[0xc2, 0x3e], 65_518, DONE),
     (&VERDICT, &[0xc2, 0x3e], 65_519, BAD),
@@ -349,9 +364,16 @@ const LONG: [(&[u8], &[u8], u32, (u8, &str)); 17] = [
     // A field that is not known.
     (&VERDICT, &[0x22], 65_519, DONE),
     (&VERDICT, &[0x22], 65_520, BAD),
-    // Another event is of a form that is not built only where the message is not bad.
+    // Another event, without the flow before it: a status, and lost events of fields that are not known,
+    // each of five letters.
     (&VERDICT, &[0x12], 65_519, NOT_BUILT),
-    (&VERDICT, &[0x1a], 65_520, BAD),
+    (&VERDICT, &[0x1a], 65_520, NOT_BUILT),
+    (&VERDICT, &[0x1a], 65_519, BAD),
+    // It is of a form that is not built only where the message is not bad: behind the answer's own time.
+    (&TIME, &[0x12], 65_518, NOT_BUILT),
+    (&TIME, &[0x12], 65_519, BAD),
+    (&TIME, &[0x1a], 65_515, NOT_BUILT),
+    (&TIME, &[0x1a], 65_520, BAD),
     // Behind two numbers that grow by 5 bytes each: of 65,526 bytes and anew 65,536.
     (&VERDICT_AND_TIME, &[0xc2, 0x3e], 65_505, DONE),
     (&VERDICT_AND_TIME, &[0xc2, 0x3e], 65_506, BAD),

@@ -174,6 +174,50 @@ fn fields_come_in_any_order(rt: HostRuntime) -> Result<(), Fail> {
     Ok(())
 }
 
+/// Members of an answer, one after another: the last is the one that counts.
+const MEMBERS: [Spelling; 5] = [
+    // A node's status, and lost events, before a flow.
+    (
+        &[0x12, 0x00, 0x0a, 0x02, 0x10, 0x01],
+        &[0x0a, 0x02, 0x10, 0x01],
+        &[],
+    ),
+    (
+        &[0x1a, 0x00, 0x0a, 0x02, 0x10, 0x01],
+        &[0x0a, 0x02, 0x10, 0x01],
+        &[],
+    ),
+    (
+        &[0x1a, 0x04, 0x08, 0x03, 0x10, 0x03, 0x0a, 0x02, 0x10, 0x01],
+        &[0x0a, 0x02, 0x10, 0x01],
+        &[],
+    ),
+    // A flow that lost events replace, and another.
+    (
+        &[
+            0x0a, 0x02, 0x10, 0x01, 0x1a, 0x00, 0x0a, 0x04, 0x92, 0x02, 0x01, 0x61,
+        ],
+        &[0x0a, 0x04, 0x92, 0x02, 0x01, 0x61],
+        &[],
+    ),
+    // A status, and then two flows, which are one.
+    (
+        &[
+            0x12, 0x01, 0xff, 0x0a, 0x02, 0x10, 0x01, 0x0a, 0x04, 0x92, 0x02, 0x01, 0x61,
+        ],
+        &[0x0a, 0x06, 0x10, 0x01, 0x92, 0x02, 0x01, 0x61],
+        &[],
+    ),
+];
+
+#[test]
+fn the_last_member_counts(rt: HostRuntime) -> Result<(), Fail> {
+    for spelling in MEMBERS {
+        assert!(rt; is_read_as(rt, spelling)?, "{spelling:?}");
+    }
+    Ok(())
+}
+
 /// Varints that are longer than needed, defaults that are spelled, and messages that are empty.
 const LONGER: [Spelling; 14] = [
     // The flow's tag, its length, and both.

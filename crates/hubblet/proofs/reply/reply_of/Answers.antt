@@ -1,8 +1,8 @@
 use Rattle.std.proofs.Common.{◌≡◌, ◌≤◌, ◌<◌, ◌++◌, ◌∙◌, length, map, arith}
 use Rattle.std.proofs.lemmas.List.{length-map}
-use Rattle.hb_flow.specs.Messages.{record_bytes}
 use Rattle.hb_listring.specs.Log.{window_start}
 use Rattle.hubblet.specs.Reply.{answer_frame}
+use Rattle.hubblet.specs.Recording.{flow_record}
 use Rattle.hubblet.specs.Ingest.{Logs}
 use Rattle.hubblet.proofs.Answered.{frames_with, frames_all}
 use Rattle.hubblet.proofs.reply.reply_of.Goals as goal
@@ -11,8 +11,8 @@ pub flow_at-requires-clause-window : goal.flow_at-requires-clause-window
 flow_at-requires-clause-window g c =
     let log = c.requires.logs.0 in
     let logs = c.requires.logs.1 in
-    let now : Logs (g.R.Look.tells c.loop-position.reader) log = record { stands = c.loop-position.invariant.tells (map record_bytes log) logs.stands; kept = logs.kept } in
-    let size : c.top-top.result ≡ length log = c.top-top.ensures.told (map record_bytes log) logs.stands ∙ length-map log record_bytes in
+    let now : Logs (g.R.Look.tells c.loop-position.reader) log = record { stands = c.loop-position.invariant.tells (map flow_record log) logs.stands; kept = logs.kept } in
+    let size : c.top-top.result ≡ length log = c.top-top.ensures.told (map flow_record log) logs.stands ∙ length-map log flow_record in
     let below : c.loop-position.position < length log = omega (arith, size, c.loop-position-test.true) in
     let from : window_start (length log) (g.R.Look.capacity c.loop-position.reader) ≤ c.loop-position.position =
     omega (arith, size, c.loop-position.auto.position, c.min.ensures, c.capacity.ensures.capacity, c.top-top.ensures.limits.0, c.loop-position.invariant.capacity) in
@@ -34,10 +34,10 @@ loop-position-preserved g c =
       fixed = c.flow_at.ensures.fixed ∙ c.loop-position.invariant.fixed;
       tells = λ log tells. c.flow_at.ensures.tells log (c.loop-position.invariant.tells log tells);
       frames = λ log logs.
-          let size : c.top-top.result ≡ length log = c.top-top.ensures.told (map record_bytes log) logs.stands ∙ length-map log record_bytes in
+          let size : c.top-top.result ≡ length log = c.top-top.ensures.told (map flow_record log) logs.stands ∙ length-map log flow_record in
           let from : window_start (length log) cap ≤ c.loop-position.position =
           omega (arith, size, c.loop-position.auto.position, c.min.ensures, c.capacity.ensures.capacity, c.top-top.ensures.limits.0) in
-          let now : Logs (g.R.Look.tells c.loop-position.reader) log = record { stands = c.loop-position.invariant.tells (map record_bytes log) logs.stands; kept = logs.kept } in
+          let now : Logs (g.R.Look.tells c.loop-position.reader) log = record { stands = c.loop-position.invariant.tells (map flow_record log) logs.stands; kept = logs.kept } in
           let found = c.in_ok-flow.ensures.ok log now in
           frames_with name cap log c.loop-position.position flow c.loop-position.frames.items c.put_answer.new.frames.items
           from found.0 (c.loop-position.invariant.frames log logs) appended;
@@ -45,7 +45,7 @@ loop-position-preserved g c =
 
 pub returns-clause-ok : goal.returns-clause-ok
 returns-clause-ok g c = λ log logs.
-    let size : c.top-top.result ≡ length log = c.top-top.ensures.told (map record_bytes log) logs.stands ∙ length-map log record_bytes in
+    let size : c.top-top.result ≡ length log = c.top-top.ensures.told (map flow_record log) logs.stands ∙ length-map log flow_record in
     let past : length log ≤ c.loop-position.position = omega (arith, c.loop-position-test.false, size) in
     frames_all c.args.name.now (g.R.Look.capacity c.args.reader.now) log c.loop-position.position c.loop-position.frames.items c.extend_from_slice.new.self.items past
     (c.loop-position.invariant.frames log logs) c.in_ok-extend_from_slice.ensures.items

@@ -4,7 +4,7 @@ use Rattle.hb_flow.specs.Fields.{parts}
 use Rattle.hb_flow.specs.Steps.{response_after}
 use Rattle.hb_flow.proofs.Records.{response_of}
 use Rattle.hb_flow.specs.Messages.{read_response, ResponseFits}
-use Rattle.hb_flow.proofs.ByNumber.{read_is}
+use Rattle.hb_flow.proofs.Reading.{read_is}
 use Rattle.hb_flow.proofs.Fitting.{response_fits}
 use Rattle.hb_flow.proofs.response.GetFlowsResponse.read.Goals as goal
 

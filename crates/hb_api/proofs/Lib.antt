@@ -1,0 +1,5 @@
+pub mod Spelling
+pub mod ByNumber
+pub mod Fitting
+pub mod Again
+pub mod Least

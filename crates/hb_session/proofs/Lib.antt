@@ -1,0 +1,17 @@
+pub mod Bools
+pub mod Parts
+pub mod Windows
+pub mod Held
+pub mod Made
+pub mod Ways
+pub mod Forwards
+pub mod ForwardSteps
+pub mod BackwardSteps
+pub mod Steps
+pub mod Ready
+pub mod Sent
+pub mod Looked
+pub mod Grows
+pub mod Sessions
+pub mod Opened
+pub mod Turned

@@ -1,0 +1,27 @@
+//! The session of a node: one reply to one client, made of looks at a ring and handed to a link, one
+//! look or one write a turn. `specs/` says what a client is owed, by nothing but the looks that were
+//! made for it: a window that is read forwards (`Forward`) or backwards (`Backward`), with one lost
+//! event for each stretch that was overwritten before it was read, and the status that ends a reply
+//! (`Replies`). The theorem is in the clauses of `NodeSession::turn`: whatever is written to the ring
+//! in between, the link has taken the first bytes of what the client is owed, and all of them at
+//! `Done`. What follows a window is not read.
+#![tactic(auto)]
+
+mod counts;
+mod event;
+mod finishing;
+mod laws;
+mod loss;
+mod reply;
+mod selection;
+mod session;
+mod turn;
+mod writer;
+
+pub use counts::Counts;
+pub use finishing::finish;
+pub use laws::owed_only_grows;
+pub use loss::Loss;
+pub use selection::Selection;
+pub use session::NodeSession;
+pub use turn::{OpenFault, Turn};
