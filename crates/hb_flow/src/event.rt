@@ -57,19 +57,21 @@ pub fn record_of(event: &Event, out: &mut Vec<u8>) -> Result<(), NoMemory>
     }
 }
 
-/// The event that an answer holds.
-fn held_event(response: GetFlowsResponse) -> Option<Event>
-    ensures { result ≡ event_in response }
-{
-    let GetFlowsResponse {
-        response_types,
-        time,
-        ..
-    } = response;
-    match response_types {
-        Some(ResponseTypes::Flow(flow)) => Some(Event::Flow(flow)),
-        Some(ResponseTypes::LostEvents(event)) => Some(Event::Lost(Lost { event, time })),
-        _ => None,
+impl GetFlowsResponse {
+    /// The event that it holds, if any: a flow, or lost events with its time.
+    pub fn into_event(self) -> Option<Event>
+        ensures event { result ≡ event_in self }
+    {
+        let GetFlowsResponse {
+            response_types,
+            time,
+            ..
+        } = self;
+        match response_types {
+            Some(ResponseTypes::Flow(flow)) => Some(Event::Flow(flow)),
+            Some(ResponseTypes::LostEvents(event)) => Some(Event::Lost(Lost { event, time })),
+            _ => None,
+        }
     }
 }
 
@@ -81,7 +83,7 @@ pub fn event_of(alloc: Global, bytes: &[u8]) -> Result<Option<Event>, DecodeFaul
     ensures fits { IfOk result (λ event. IfSome event EventFits) }
 {
     match GetFlowsResponse::read(alloc, bytes) {
-        Ok(response) => Ok(held_event(response)),
+        Ok(response) => Ok(response.into_event()),
         Err(fault) => Err(fault),
     }
 }

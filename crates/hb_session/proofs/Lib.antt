@@ -15,3 +15,5 @@ pub mod Grows
 pub mod Sessions
 pub mod Opened
 pub mod Turned
+pub mod Sizes
+pub mod Growth

@@ -1,9 +1,10 @@
 -- Turns one after another.
-use Rattle.std.proofs.Common.{◌≡◌, ◌≢◌, ◌↔◌, ◌⊎◌, inl, inr, take, min, ℕ, ◌+◌, ◌-◌, ◌^◌, ◌<◌, ◌≤◌, List, [], ◌++◌, Option, Some, None, refl, sym, ap, ◌∙◌, append_assoc, arith, length, drop, subst}
+use Rattle.std.proofs.Common.{◌≡◌, ◌≢◌, ◌↔◌, ◌⊎◌, inl, inr, take, min, ℕ, ◌+◌, ◌-◌, ◌^◌, ◌<◌, ◌≤◌, List, [], ◌∷◌, ◌++◌, Option, Some, None, refl, sym, ap, ◌∙◌, append_assoc, arith, length, drop, subst}
 use Rattle.std.specs.Option.{ForSome}
 use Rattle.std.proofs.lemmas.List.{append-nil, length-append, length-take}
 use Rattle.std.proofs.Math.Seq.{drop-append_seam}
-use Rattle.std.specs.List.{All}
+use Rattle.std.specs.List.{All, fold}
+use Rattle.std.proofs.lemmas.List.Sums.{fold-append}
 use Rattle.std.proofs.lemmas.List.Elements.{All-append, All-nil}
 use Rattle.hb_look.specs.Looks.{LookMade}
 use Rattle.hb_look.specs.Reader.{Seen, Reader, Loaded, IsLaterSeen, IsLater}
@@ -155,6 +156,22 @@ goes_open answer (inr e) = ap ended_by e
 pub goes_moving : (answer : Turn) (w v n : ℕ) → GoesOn answer → (answer ≡ turns.More → 0 < n) → (answer ≡ turns.Idle → Rose w v) → (Rose w v → ⊥) → 1 ≤ n
 goes_moving answer w v n (inl e) more idle calm = let some = more e in omega (arith, some)
 goes_moving answer w v n (inr e) more idle calm = absurd (calm (idle e))
+
+-- ---- what the link is afterwards
+
+-- writes of pieces, one after another
+abbrev pub AreWrites : {A : Type 0} → (A → List ℕ → A) → A → A → Type 0
+AreWrites step a b = (pieces : List (List ℕ)) × (b ≡ fold step a pieces)
+
+-- and one more, or none
+pub writes_more : {A : Type 0} (step : A → List ℕ → A) (a b c : A) (piece : List ℕ) → AreWrites step a b → (c ≡ b) ⊎ (c ≡ step b piece) → AreWrites step a c
+writes_more step a b c piece are (inl same) = (are.0, same ∙ are.1)
+writes_more step a b c piece are (inr wrote) = (are.0 ++ piece ∷ [], wrote ∙ ap (λ x. step x piece) are.1 ∙ sym (fold-append step a are.0 (piece ∷ [])))
+
+-- what each write keeps is so after all of them
+pub writes_keep : {A : Type 0} (step : A → List ℕ → A) (P : A → Type 0) → ((x : A) (piece : List ℕ) → P x → P (step x piece)) → (pieces : List (List ℕ)) (a : A) → P a → P (fold step a pieces)
+writes_keep step P keeps [] a is = is
+writes_keep step P keeps (piece ∷ pieces) a is = writes_keep step P keeps pieces (step a piece) (keeps a piece is)
 
 -- ---- what holds of each look
 

@@ -1,5 +1,5 @@
 -- What a client is owed, by the looks that were made for it.
-use Rattle.std.specs.Prelude.{ℕ, ◌+◌, ◌-◌, ◌≡◌, min, Bool, false, not, ◌&&◌, nat_lt, List, [], ◌∷◌, ◌++◌, length, Some, if◌then◌else◌}
+use Rattle.std.specs.Prelude.{ℕ, ◌+◌, ◌-◌, ◌≡◌, ◌≤◌, min, Bool, false, not, ◌&&◌, nat_lt, List, [], ◌∷◌, ◌++◌, length, Some, if◌then◌else◌}
 use Rattle.std.specs.List.{flat_map}
 use Rattle.hb_look.specs.Looks.{LookMade, reach}
 use Rattle.hb_flow.specs.declared.event.Event.{Event}
@@ -8,7 +8,7 @@ use Rattle.hb_flow.specs.declared.response_types.ResponseTypes.TheVariants as me
 use Rattle.hb_flow.specs.declared.response.GetFlowsResponse.{GetFlowsResponse}
 use Rattle.hb_api.specs.declared.request.GetFlowsRequest.{GetFlowsRequest}
 use Rattle.hb_flow.specs.Messages.{response_bytes}
-use Rattle.hb_frame.specs.Frames.{frame}
+use Rattle.hb_frame.specs.Frames.{frame, longest_body}
 use Rattle.hb_session.specs.declared.selection.Selection.{Selection}
 use Rattle.hb_session.specs.Forward.{forward, forward_has_ended}
 use Rattle.hb_session.specs.Backward.{backward, backward_has_ended}
@@ -54,6 +54,10 @@ response_for name (events.Lost lost) = record { response_types = Some (members.L
 -- its frame
 abbrev pub event_frame : List ℕ → Event → List ℕ
 event_frame name event = frame 0 (response_bytes (response_for name event))
+
+-- the response fits a frame
+abbrev pub FitsFrame : List ℕ → Event → Type 0
+FitsFrame name event = length (response_bytes (response_for name event)) ≤ longest_body
 
 -- the status frame that ends a reply: without code or message
 abbrev pub ok_frame : List ℕ

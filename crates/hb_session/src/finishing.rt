@@ -2,7 +2,7 @@
 ghost use Rattle.std.specs.Prelude.{◌≡◌, ◌≢◌, ◌⊎◌, ◌↔◌, ℕ, ◌+◌, ◌-◌, ◌^◌, ◌<◌, ◌≤◌, List, ◌++◌, length, min, max, Some, None, true, false};
 ghost use Rattle.std.specs.Option.{ForSome};
 ghost use Rattle.hb_edge.specs.Causes.{Rose};
-ghost use Rattle.std.specs.List.{All};
+ghost use Rattle.std.specs.List.{All, fold};
 ghost use Rattle.hb_look.specs.Looks.{LookMade, after};
 ghost use Rattle.hb_look.specs.Reader.{IsLater, ReaderStandsFor};
 ghost use Rattle.hb_session.specs.Replies.{owed};
@@ -81,6 +81,8 @@ pub fn finish<R: Look, L: Link>(
     ensures fixed { R.fixed reader.new ≡ R.fixed reader.old }
     ensures later_link { (L.faults link.old ≤ L.faults link.new)
         × (L.write_waits link.old ≤ L.write_waits link.new) }
+    ensures link { ForSome (L.held link.old) (λ _. L.starved link.new ≡ false
+        → (pieces : List (List ℕ)) × (link.new ≡ fold L.write_after link.old pieces)) }
     ensures fed { L.starved link.new ≡ false → L.starved link.old ≡ false }
     ensures fixed_link { (L.key link.new ≡ L.key link.old)
         × (L.lender link.new ≡ L.lender link.old) }

@@ -1,11 +1,21 @@
 //! The laws of what a client is owed.
-ghost use Rattle.std.specs.Prelude.{◌≡◌, List, ◌++◌, length, take};
+ghost use Rattle.std.specs.Prelude.{◌≡◌, ◌≤◌, ℕ, List, ◌++◌, length, take, IfSome};
 ghost use Rattle.hb_look.specs.Looks.{LookMade};
-ghost use Rattle.hb_session.specs.Replies.{Opening, owed, AreMade};
+ghost use Rattle.hb_session.specs.Events.{event_of_record, lost_event};
+ghost use Rattle.hb_session.specs.Replies.{Opening, FitsFrame, owed, AreMade};
 
 /// Among the looks that a session makes, what is owed only grows: what was owed before some of them
 /// begins what is owed after them.
 pub fn owed_only_grows()
     ensures grows { (o : Opening) (looks more : List LookMade) → AreMade o (looks ++ more)
         → take (length (owed o looks)) (owed o (looks ++ more)) ≡ owed o looks }
+{}
+
+/// Each response of a session fits a frame: that for the event of a record, however it is spelled,
+/// and that for a stretch. So no event is left out for its size.
+pub fn responses_fit()
+    ensures read { (name bytes : List ℕ) → length name ≤ 63 → length bytes ≤ 65024
+        → IfSome (event_of_record bytes) (FitsFrame name) }
+    ensures lost { (name : List ℕ) (count moment : ℕ) → length name ≤ 63
+        → FitsFrame name (lost_event count moment) }
 {}

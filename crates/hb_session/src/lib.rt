@@ -20,7 +20,7 @@ mod writer;
 
 pub use counts::Counts;
 pub use finishing::finish;
-pub use laws::owed_only_grows;
+pub use laws::{owed_only_grows, responses_fit};
 pub use loss::Loss;
 pub use selection::Selection;
 pub use session::NodeSession;

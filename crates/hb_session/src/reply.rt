@@ -1,6 +1,6 @@
 //! The reply of a node as it grows, look by look.
-ghost use Rattle.std.specs.Prelude.{◌≡◌, ℕ, List, ◌∷◌, ◌+◌, ◌^◌, ◌<◌, ◌≤◌, [], ◌++◌, length, drop, None, Some, false, IfOk, OnOk};
-ghost use Rattle.hb_session.specs.Replies.{Opening, is_backward};
+ghost use Rattle.std.specs.Prelude.{◌≡◌, ℕ, List, ◌∷◌, ◌+◌, ◌^◌, ◌<◌, ◌≤◌, [], ◌++◌, length, drop, None, Some, false, IfOk, OnOk, IfSome};
+ghost use Rattle.hb_session.specs.Replies.{Opening, is_backward, FitsFrame};
 ghost use Rattle.hb_session.specs.Events.{event_of_record};
 ghost use Rattle.hb_session.specs.Steps.{ReplyState, IsReady, started, next_place, is_done, with_event, with_loss, ended_with, forward_end, forward_read, forward_gone, release, backward_read, backward_gone, after_read, after_gone, given_forward, skipped_forward, read_forward, held_with, kept_backward};
 ghost use Rattle.hb_look.specs.Looks.{LookMade, Got, Gone};
@@ -53,7 +53,8 @@ impl Model for Reply {
     ghost invariant = { λ r. (r.low + r.size ≤ 2 ^ 62) × (r.passed ≤ r.size)
         × (r.flows ≤ r.passed) × (loss_count r.loss ≤ r.passed)
         × (r.counts.given + r.counts.skipped + r.counts.lost ≤ r.passed)
-        × (r.taken ≤ length r.waiting.items) × (length r.waiting.items < 2 ^ 64) };
+        × (r.taken ≤ length r.waiting.items) × (length r.waiting.items < 2 ^ 64)
+        × (length r.writer ≤ 63) };
 }
 
 impl Reply {
@@ -66,6 +67,7 @@ impl Reply {
         size: u64,
     ) -> Result<Reply, NoMemory>
         requires window { low + size ≤ 2 ^ 62 }
+        requires name { length name.now ≤ 63 }
         ensures ok { IfOk result (λ reply. reply ≡ started
             (record { selection = selection; name = name.now; low = low; size = size })) }
     {
@@ -142,6 +144,7 @@ impl Reply {
 
     /// Puts the frame of an event behind what waits.
     fn put(&mut self, event: Event) -> Result<(), NoMemory>
+        requires size { FitsFrame self.old.opening.name event }
         ensures ok { OnOk result (self.new ≡ with_event self.old event) }
         ensures opening { self.new.opening ≡ self.old.opening }
     {
@@ -149,6 +152,7 @@ impl Reply {
     }
 
     /// Puts the frame of the stretch that was open.
+    #[tactic(auto, using(crate::proofs::Growth::lost_fits))]
     fn put_loss(&mut self) -> Result<(), NoMemory>
         ensures ok { OnOk result (self.new ≡ with_loss self.old) }
         ensures opening { self.new.opening ≡ self.old.opening }
@@ -196,6 +200,7 @@ impl Reply {
     /// Gives an event that was read forwards.
     fn give(&mut self, event: Event) -> Result<(), NoMemory>
         requires going { self.old.passed < self.old.opening.size }
+        requires size { FitsFrame self.old.opening.name event }
         ensures ok { OnOk result (self.new ≡ given_forward self.old event) }
         ensures opening { self.new.opening ≡ self.old.opening }
     {
@@ -219,6 +224,7 @@ impl Reply {
     /// Gives an event that was read forwards, where it passes.
     fn take(&mut self, event: Event) -> Result<(), NoMemory>
         requires going { self.old.passed < self.old.opening.size }
+        requires size { FitsFrame self.old.opening.name event }
         ensures ok { OnOk result (self.new ≡ read_forward self.old (Some event)) }
         ensures opening { self.new.opening ≡ self.old.opening }
     {
@@ -232,6 +238,7 @@ impl Reply {
     /// A record was read forwards.
     fn read_forward(&mut self, event: Option<Event>) -> Result<(), NoMemory>
         requires going { self.old.passed < self.old.opening.size }
+        requires size { IfSome event (FitsFrame self.old.opening.name) }
         ensures ok { OnOk result (self.new ≡ forward_read self.old event) }
         ensures opening { self.new.opening ≡ self.old.opening }
     {
@@ -267,6 +274,7 @@ impl Reply {
     /// Holds the frame of an event before those that are held. It is kept back to front.
     #[tactic(auto, using(crate::proofs::Held::held_before))]
     fn hold(&mut self, event: Event) -> Result<(), NoMemory>
+        requires size { FitsFrame self.old.opening.name event }
         ensures ok { OnOk result (self.new ≡ held_with self.old event) }
         ensures opening { self.new.opening ≡ self.old.opening }
     {
@@ -290,6 +298,7 @@ impl Reply {
     /// Takes an event that was read backwards, where it passes.
     fn keep(&mut self, event: Event) -> Result<(), NoMemory>
         requires going { self.old.passed < self.old.opening.size }
+        requires size { FitsFrame self.old.opening.name event }
         ensures ok { OnOk result (self.new ≡ kept_backward self.old (Some event)) }
         ensures opening { self.new.opening ≡ self.old.opening }
     {
@@ -306,6 +315,7 @@ impl Reply {
     /// A record was read backwards.
     fn read_backward(&mut self, event: Option<Event>) -> Result<(), NoMemory>
         requires going { self.old.passed < self.old.opening.size }
+        requires size { IfSome event (FitsFrame self.old.opening.name) }
         ensures ok { OnOk result (self.new ≡ backward_read self.old event) }
         ensures opening { self.new.opening ≡ self.old.opening }
     {
@@ -320,6 +330,7 @@ impl Reply {
     }
 
     /// All positions that are left are overwritten.
+    #[tactic(auto, using(crate::proofs::Growth::lost_fits))]
     fn lose_rest(&mut self, moment: u64) -> Result<(), NoMemory>
         requires going { self.old.passed < self.old.opening.size }
         ensures ok { OnOk result (self.new ≡ backward_gone self.old moment) }
@@ -334,6 +345,7 @@ impl Reply {
     /// A record was read in the way in which the window is read.
     fn add_event(&mut self, event: Option<Event>) -> Result<(), NoMemory>
         requires going { self.old.passed < self.old.opening.size }
+        requires size { IfSome event (FitsFrame self.old.opening.name) }
         ensures ok { OnOk result (self.new ≡ after_read self.old event) }
         ensures opening { self.new.opening ≡ self.old.opening }
     {
@@ -357,9 +369,10 @@ impl Reply {
     }
 
     /// The next position was read, and its record has these bytes.
-    #[tactic(auto, using(crate::proofs::Steps::read_stands, crate::proofs::Ready::read_ready))]
+    #[tactic(auto, using(crate::proofs::Steps::read_stands, crate::proofs::Ready::read_ready, crate::proofs::Growth::read_fits))]
     pub(crate) fn read(&mut self, bytes: &[u8]) -> Result<(), NoMemory>
         requires going { (self.old.ended ≡ false) × (self.old.passed < self.old.opening.size) }
+        requires size { length bytes.now ≤ 65024 }
         ensures stands { OnOk result ((looks : List LookMade) (taken : List ℕ) (moment : ℕ)
             → ReplyStandsFor self.old looks taken
             → ReplyStandsFor self.new

@@ -48,15 +48,15 @@ impl Model for NodeSession {
       answer = s.answer;
     } };
 
-    ghost invariant = { λ s. (65024 ≤ s.buffer.room) × (s.reply.opening.size ≤ 65535)
+    ghost invariant = { λ s. (s.buffer.room ≡ 65024) × (s.reply.opening.size ≤ 65535)
         × (s.reply.opening.low + s.reply.opening.size ≤ 2 ^ 62)
         × (s.answer ≡ None → IsReady s.reply) × IsEnding s.answer };
 }
 
 impl NodeSession {
-    #[tactic(auto, using(crate::proofs::Opened::opened_stands))]
     /// A session that answers a request, at a ring of this capacity whose reader has seen `top`
     /// records. The reply is about the last `cap` of these, or all.
+    #[tactic(auto, using(crate::proofs::Opened::opened_stands))]
     pub fn open(
         alloc: Global,
         request: &GetFlowsRequest,
@@ -66,6 +66,7 @@ impl NodeSession {
     ) -> Result<NodeSession, OpenFault>
         requires top { top ≤ 2 ^ 62 }
         requires cap { cap ≤ 65535 }
+        requires name { length name.now ≤ 63 }
         ensures opening { IfOk result (λ session. session.reply.opening
             ≡ opened (selection_of request.now) name.now top cap) }
         ensures stands { IfOk result (λ session. SessionStandsFor session [] []) }
@@ -94,11 +95,11 @@ impl NodeSession {
         })
     }
 
-    #[tactic(auto, using(crate::proofs::Looked::none_added))]
     /// Makes one write of bytes that wait or, where none waits, one look. The look's moment is the
     /// greatest that was told, in nanoseconds since 1970-01-01T00:00:00Z. The cost is that of the
     /// record or of the write, but for the look that ends a reply which is read backwards: it copies
     /// the reply once.
+    #[tactic(auto, using(crate::proofs::Looked::none_added))]
     pub fn turn<R: Look, L: Link>(&mut self, reader: &mut R, link: &mut L, now: u64) -> Turn
         requires seen { self.old.reply.opening.low + self.old.reply.opening.size
             ≤ (R.reader reader.old).finished.count }
@@ -338,7 +339,7 @@ fn look<R: Look>(reply: &mut Reply, buffer: &mut Record, reader: &mut R, moment:
         × (reply.old.opening.low + reply.old.opening.size ≤ 2 ^ 62) }
     requires seen { reply.old.opening.low + reply.old.opening.size
         ≤ (R.reader reader.old).finished.count }
-    requires room { 65024 ≤ buffer.old.room }
+    requires room { buffer.old.room ≡ 65024 }
     ensures stands { result ≢ Turn.NoMemory → (looks : List LookMade) (taken : List ℕ)
         → ReplyStandsFor reply.old looks taken → ReplyStandsFor reply.new
         (looks ++ added (R.reader reader.old).looks (R.reader reader.new).looks) taken }

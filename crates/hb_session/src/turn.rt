@@ -26,7 +26,7 @@ pub enum Turn {
     LinkFault,
     /// The reader has made 2^62 looks, and may make no more.
     Spent,
-    /// Memory was refused, or a response has more bytes than a frame may have.
+    /// Memory was refused.
     NoMemory,
 }
 

@@ -1,10 +1,10 @@
 //! The frames of a reply's responses.
 ghost use Rattle.std.specs.Prelude.{◌≡◌, ◌++◌, IfOk, OnOk, OnErr};
-ghost use Rattle.hb_session.specs.Replies.{event_frame};
+ghost use Rattle.hb_session.specs.Replies.{event_frame, FitsFrame};
 
 use hb_api::GetFlowsResponse;
 use hb_flow::{Event, ResponseTypes};
-use hb_frame::{BODY, MESSAGE, put_frame};
+use hb_frame::{MESSAGE, put_frame};
 use hb_wire::{NoMemory, Seq, Text};
 use std::alloc::Global;
 use std::marker::Model;
@@ -45,6 +45,7 @@ impl Writer {
 
     /// Appends the frame of the response that gives an event.
     pub(crate) fn put(&mut self, event: Event, out: &mut Vec<u8>) -> Result<(), NoMemory>
+        requires size { FitsFrame self.old event }
         ensures ok { OnOk result (out.new.items ≡ out.old.items ++ event_frame self.old event) }
         ensures err { OnErr result (out.new.items ≡ out.old.items) }
         ensures name { self.new ≡ self.old }
@@ -61,9 +62,6 @@ impl Writer {
         }
         self.body.clear();
         self.response.write(&mut self.body)?;
-        if self.body.len() > BODY {
-            return Err(NoMemory);
-        }
         let Ok(()) = put_frame(out, MESSAGE, self.body.as_slice()) else {
             return Err(NoMemory);
         };

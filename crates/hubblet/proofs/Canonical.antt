@@ -11,7 +11,7 @@ use Rattle.hb_flow.specs.declared.response.GetFlowsResponse.{GetFlowsResponse}
 use Rattle.hb_flow.proofs.Again.{response_again, response_clean}
 use Rattle.hb_flow.proofs.Fitting.{response_fits}
 use Rattle.hubblet.specs.Frames.{Frame, IsFrame, frame_bytes, message_frame, message_in, messages}
-use Rattle.hubblet.specs.Recording.{IsOtherMember, IsTaken, Recorded, canonical}
+use Rattle.hubblet.specs.Recording.{IsSound, Recorded, canonical}
 use Rattle.hubblet.proofs.Cuts.{nothing_starts, frames_after, rest_bytes}
 
 -- ---- a message and the canonical spelling of its answer
@@ -19,26 +19,20 @@ use Rattle.hubblet.proofs.Cuts.{nothing_starts, frames_after, rest_bytes}
 abbrev spelled_anew : List ℕ → List ℕ
 spelled_anew message = response_bytes (read_response message)
 
-fits_of : (message : List ℕ) → AreBytes message → IsTaken message → ResponseFits (read_response message)
-fits_of message are taken = response_fits message are taken.sound.no_fault
+fits_of : (message : List ℕ) → AreBytes message → IsSound message → ResponseFits (read_response message)
+fits_of message are sound = response_fits message are sound.no_fault
 
-short_of : (message : List ℕ) → IsTaken message → length (spelled_anew message) < 2 ^ 64
-short_of message taken = omega (arith, taken.sound.short)
+short_of : (message : List ℕ) → IsSound message → length (spelled_anew message) < 2 ^ 64
+short_of message sound = omega (arith, sound.short)
 
-reads_again : (message : List ℕ) → AreBytes message → IsTaken message → read_response (spelled_anew message) ≡ read_response message
-reads_again message are taken = response_again (read_response message) (fits_of message are taken) (short_of message taken)
+reads_again : (message : List ℕ) → AreBytes message → IsSound message → read_response (spelled_anew message) ≡ read_response message
+reads_again message are sound = response_again (read_response message) (fits_of message are sound) (short_of message sound)
 
-taken_again : (message : List ℕ) → AreBytes message → IsTaken message → IsTaken (spelled_anew message)
-taken_again message are taken =
-    let r = read_response message in
-    let again = reads_again message are taken in
-    record {
-      sound = record {
-        no_fault = response_clean r (fits_of message are taken) (short_of message taken);
-        short = subst (λ (x : GetFlowsResponse). length (response_bytes x) ≤ 65536) (sym again) taken.sound.short;
-      };
-      kept = subst (λ (x : GetFlowsResponse). IsOtherMember x.response_types → ⊥) (sym again) taken.kept;
-    }
+sound_again : (message : List ℕ) → AreBytes message → IsSound message → IsSound (spelled_anew message)
+sound_again message are sound = record {
+  no_fault = response_clean (read_response message) (fits_of message are sound) (short_of message sound);
+  short = subst (λ (x : GetFlowsResponse). length (response_bytes x) ≤ 65536) (sym (reads_again message are sound)) sound.short;
+}
 
 -- ---- the messages of a file are bytes
 
@@ -53,7 +47,7 @@ bytes_in : (b : Bool) (body : List ℕ) → AreBytes body → IfSome (if b then 
 bytes_in true body are = are
 bytes_in false body are = tt
 
-messages_bytes : (frames : List Frame) (rest : List ℕ) → AreBytes (flat_map frame_bytes frames ++ rest) → AllByRecursion AreBytes (messages frames)
+pub messages_bytes : (frames : List Frame) (rest : List ℕ) → AreBytes (flat_map frame_bytes frames ++ rest) → AllByRecursion AreBytes (messages frames)
 messages_bytes [] rest are = tt
 messages_bytes (f ∷ fs) rest are =
     let all = subst AreBytes (frames_after f fs rest) are in
@@ -70,19 +64,19 @@ frames_of ms = map (λ m. message_frame (spelled_anew m)) ms
 record Anew (ms : List (List ℕ)) : Type 0 where
   whole : canonical (map read_response ms) ≡ flat_map frame_bytes (frames_of ms)
   fit : AllByRecursion IsFrame (frames_of ms)
-  taken : AllByRecursion IsTaken (messages (frames_of ms))
+  sound : AllByRecursion IsSound (messages (frames_of ms))
   read : map read_response ms ≡ map read_response (messages (frames_of ms))
 
-anew : (ms : List (List ℕ)) → AllByRecursion AreBytes ms → AllByRecursion IsTaken ms → Anew ms
-anew [] are taken = record { whole = refl; fit = tt; taken = tt; read = refl }
-anew (m ∷ ms) are taken =
-    let rest = anew ms are.1 taken.1 in
+anew : (ms : List (List ℕ)) → AllByRecursion AreBytes ms → AllByRecursion IsSound ms → Anew ms
+anew [] are sound = record { whole = refl; fit = tt; sound = tt; read = refl }
+anew (m ∷ ms) are sound =
+    let rest = anew ms are.1 sound.1 in
     record {
       whole = ap (λ (bs : List ℕ). frame_bytes (message_frame (spelled_anew m)) ++ bs) rest.whole;
-      fit = (record { known = omega arith; short = taken.0.sound.short }, rest.fit);
-      taken = (taken_again m are.0 taken.0, rest.taken);
+      fit = (record { known = omega arith; short = sound.0.short }, rest.fit);
+      sound = (sound_again m are.0 sound.0, rest.sound);
       read = ap (λ (rs : List GetFlowsResponse). read_response m ∷ rs) rest.read
-          ∙ ap (λ (r : GetFlowsResponse). r ∷ map read_response (messages (frames_of ms))) (sym (reads_again m are.0 taken.0));
+          ∙ ap (λ (r : GetFlowsResponse). r ∷ map read_response (messages (frames_of ms))) (sym (reads_again m are.0 sound.0));
     }
 
 recorded_anew : (ms : List (List ℕ)) → Anew ms → Recorded (canonical (map read_response ms)) (map read_response ms)
@@ -92,7 +86,7 @@ recorded_anew ms is = record {
     starts = record { fit = is.fit; whole = is.whole ∙ sym (append-nil (flat_map frame_bytes (frames_of ms))) };
     longest = nothing_starts;
   };
-  taken = is.taken;
+  sound = is.sound;
   read = is.read;
 }
 
@@ -100,4 +94,4 @@ pub canonical_recorded : (file : List ℕ) (rs : List GetFlowsResponse) → AreB
 canonical_recorded file rs are recorded =
     let ms = messages recorded.frames in
     let bytes = messages_bytes recorded.frames [] (subst AreBytes recorded.cut.starts.whole are) in
-    subst (λ (xs : List GetFlowsResponse). Recorded (canonical xs) xs) (sym recorded.read) (recorded_anew ms (anew ms bytes recorded.taken))
+    subst (λ (xs : List GetFlowsResponse). Recorded (canonical xs) xs) (sym recorded.read) (recorded_anew ms (anew ms bytes recorded.sound))

@@ -1,4 +1,4 @@
--- Each file is a recording, or bad at a place, or of another form.
+-- Each file is a recording, or bad at a place.
 use Rattle.std.proofs.Common.{◌≡◌, ◌⊎◌, inl, inr, ℕ, zero, suc, ◌≤◌, List, [], ◌∷◌, ◌++◌, length, map, Option, Some, None, refl, sym, subst, arith}
 use Rattle.std.specs.Prelude.{IsSome}
 use Rattle.std.specs.List.{flat_map}
@@ -9,70 +9,40 @@ use Rattle.hb_flow.specs.Faults.{response_fault}
 use Rattle.hb_flow.specs.Messages.{read_response, response_bytes}
 use Rattle.hb_flow.specs.declared.fault.DecodeFault.{DecodeFault}
 use Rattle.hb_flow.specs.declared.response.GetFlowsResponse.{GetFlowsResponse}
-use Rattle.hb_flow.specs.declared.response_types.ResponseTypes.{ResponseTypes}
-use Rattle.hb_flow.specs.declared.response_types.ResponseTypes.TheVariants as member
-use Rattle.hubblet.specs.Frames.{Frame, StartsFrame, StartsNoFrame, frame_bytes, message_frame, messages}
-use Rattle.hubblet.specs.Recording.{IsSound, IsBad, flow_record, IsOtherMember, IsTaken, IsOther, TakesFrames, Recorded, IsBadFront, IsBadRecord, IsOtherForm}
+use Rattle.hubblet.specs.Frames.{Frame, StartsNoFrame, frame_bytes, messages}
+use Rattle.hubblet.specs.Recording.{IsSound, IsBad, TakesFrames, Recorded, IsBadFront, IsBadRecord}
 use Rattle.hubblet.proofs.Cuts.{rest_bytes, starts_or_not}
 use Rattle.hubblet.proofs.Ingested.{frame_size, starts_message}
-use Rattle.hubblet.proofs.Recorded.{TakenFrame, takes_more, all_recorded}
+use Rattle.hubblet.proofs.Recorded.{SoundFrame, takes_more, all_recorded}
 
--- ---- a message is taken, or bad, or of another form
-
-abbrev Told : List ℕ → Type 0
-Told message = IsTaken message ⊎ (IsBad message ⊎ IsOther message)
-
--- what an answer holds is of another form or not
-other_or_not : (held : Option ResponseTypes) → IsOtherMember held ⊎ (IsOtherMember held → ⊥)
-other_or_not None = inr (λ other. other)
-other_or_not (Some (member.Flow f)) =
-    elim (cases_lt 8192 (length (flow_record f))) [
-      | inl long ↦ inl long
-      | inr short ↦ inr (λ long. omega (arith, short, long))
-    ]
-other_or_not (Some (member.NodeStatus status)) = inl tt
-other_or_not (Some (member.LostEvents e)) = inl tt
-
--- by what it holds
-told_by_member : (message : List ℕ) → IsSound message → Told message
-told_by_member message sound =
-    elim (other_or_not (read_response message).response_types) [
-      | inl other ↦ inr (inr (record { sound = sound; other = other }))
-      | inr kept ↦ inl (record { sound = sound; kept = kept })
-    ]
+-- ---- a message is sound or bad
 
 -- by its fault, and its length when it is spelled anew
-told_by_fault : (message : List ℕ) (fault : Option DecodeFault) → response_fault message ≡ fault → Told message
-told_by_fault message (Some fault) is = inr (inl (inl (subst (λ (o : Option DecodeFault). IsSome o) (sym is) refl)))
+told_by_fault : (message : List ℕ) (fault : Option DecodeFault) → response_fault message ≡ fault → IsSound message ⊎ IsBad message
+told_by_fault message (Some fault) is = inr (inl (subst (λ (o : Option DecodeFault). IsSome o) (sym is) refl))
 told_by_fault message None is =
     elim (cases_lt 65536 (length (response_bytes (read_response message)))) [
-      | inl long ↦ inr (inl (inr long))
-      | inr short ↦ told_by_member message (record { no_fault = is; short = short })
+      | inl long ↦ inr (inr long)
+      | inr short ↦ inl (record { no_fault = is; short = short })
     ]
 
 -- ---- a file
 
 abbrev pub Each : List ℕ → Type 0
-Each file = ((rs : List GetFlowsResponse) × Recorded file rs) ⊎ (((at : ℕ) × IsBadRecord file at) ⊎ IsOtherForm file)
+Each file = ((rs : List GetFlowsResponse) × Recorded file rs) ⊎ ((at : ℕ) × IsBadRecord file at)
 
--- a rest that begins with no whole frame, or with a message that is not taken
+-- a rest that begins with no whole frame, or with a bad message
 bad_at : (file : List ℕ) (frames : List Frame) (rest : List ℕ) → TakesFrames file frames rest → IsBadFront rest → Each file
-bad_at file frames rest before bad = inr (inl (length (flat_map frame_bytes frames), record { frames = frames; rest = rest; before = before; place = refl; bad = bad }))
+bad_at file frames rest before bad = inr (length (flat_map frame_bytes frames), record { frames = frames; rest = rest; before = before; place = refl; bad = bad })
 
--- a frame is taken, or is a message that is not
-frame_told : (kind : ℕ) (body : List ℕ) → TakenFrame (record { kind = kind; body = body }) ⊎ ((kind ≡ 0) × (IsBad body ⊎ IsOther body))
+-- a frame is sound, or is a message that is bad
+frame_told : (kind : ℕ) (body : List ℕ) → SoundFrame (record { kind = kind; body = body }) ⊎ ((kind ≡ 0) × IsBad body)
 frame_told zero body =
     elim (told_by_fault body (response_fault body) refl) [
-      | inl taken ↦ inl taken
-      | inr other ↦ inr (refl, other)
+      | inl sound ↦ inl sound
+      | inr bad ↦ inr (refl, bad)
     ]
 frame_told (suc k) body = inl (rw (eqb-suc-zero k) tt)
-
--- a message that is not taken
-untaken_at : (file : List ℕ) (frames : List Frame) (rest message after : List ℕ) → TakesFrames file frames rest → StartsFrame rest (message_frame message) after → IsBad message ⊎ IsOther message
-    → Each file
-untaken_at file frames rest message after before next (inl bad) = bad_at file frames rest before (inr (message, after, next, bad))
-untaken_at file frames rest message after before next (inr other) = inr (inr (record { frames = frames; rest = rest; before = before; message = message; after = after; next = next; other = other }))
 
 -- a rest that begins with no frame
 rest_ends : (file : List ℕ) (frames : List Frame) (rest : List ℕ) → TakesFrames file frames rest → StartsNoFrame rest → Each file
@@ -93,11 +63,11 @@ each_from (suc most) file frames rest fits are before =
           let next = begun.2 in
           let bytes : AreBytes after = rest_bytes (frame_bytes f) after (subst AreBytes next.whole are) in
           elim (frame_told f.kind f.body) [
-            | inl taken ↦ each_from most file (frames ++ f ∷ []) after (omega (arith, fits, frame_size rest f.body after f.kind next)) bytes (takes_more file rest after f frames before next taken)
-            | inr untaken ↦ untaken_at file frames rest f.body after before (starts_message rest f.body after f.kind next untaken.0) untaken.1
+            | inl sound ↦ each_from most file (frames ++ f ∷ []) after (omega (arith, fits, frame_size rest f.body after f.kind next)) bytes (takes_more file rest after f frames before next sound)
+            | inr bad ↦ bad_at file frames rest before (inr (f.body, after, starts_message rest f.body after f.kind next bad.0, bad.1))
           ]
       | inr none ↦ rest_ends file frames rest before none
     ]
 
 pub each_file : (file : List ℕ) → AreBytes file → Each file
-each_file file are = each_from (length file) file [] file (omega arith) are (record { starts = record { fit = tt; whole = refl }; taken = tt })
+each_file file are = each_from (length file) file [] file (omega arith) are (record { starts = record { fit = tt; whole = refl }; sound = tt })

@@ -1,7 +1,7 @@
 pub mod Observe
 pub mod Recording
 pub mod Frames
-pub mod Reply
+pub mod Node
 pub mod Words
 pub mod Lines
 pub mod Limits

@@ -2,7 +2,7 @@
 use Rattle.std.specs.Prelude.{ℕ, List, [], ◌++◌, codes}
 use Rattle.std.specs.Fmt.{decimal}
 use Rattle.hubblet.specs.declared.status.Status.{Status}
-use Rattle.hubblet.specs.declared.status.Status.TheVariants.{Done, BadWords, ReadFault, WriteFault, BadRecord, NoMemory, TooLarge, OtherForm}
+use Rattle.hubblet.specs.declared.status.Status.TheVariants.{Done, BadWords, ReadFault, WriteFault, BadRecord, NoMemory, TooLarge}
 
 abbrev pub code_of : Status → ℕ
 code_of Done = 0
@@ -12,7 +12,6 @@ code_of WriteFault = 4
 code_of (BadRecord file at) = 5
 code_of NoMemory = 9
 code_of (TooLarge file) = 12
-code_of (OtherForm file) = 13
 
 -- the text behind `hubblet: `
 abbrev pub line_of : Status → List ℕ
@@ -23,4 +22,3 @@ line_of WriteFault = codes "write failed"
 line_of (BadRecord file at) = file ++ codes ": bad record at " ++ decimal at
 line_of NoMemory = codes "no memory"
 line_of (TooLarge file) = file ++ codes ": too large"
-line_of (OtherForm file) = file ++ codes ": form not built"

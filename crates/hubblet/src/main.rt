@@ -16,7 +16,10 @@ mod words;
 mod writing;
 
 use hb_edge::{FileShelf, RealClock, StdoutSink};
-pub use laws::{one_cut, one_reading, one_reply};
+pub use laws::{
+    first_of_window, job_limits, last_of_window, one_cut, one_output, one_reading, one_spelling,
+    whole_window,
+};
 pub use observe::run;
 pub use status::Status;
 use std::env;

@@ -1,21 +1,18 @@
 //! Reading a recording into a ring.
 ghost use Rattle.std.specs.Prelude.{◌≡◌, ◌<◌, ◌≤◌, ◌^◌, ◌↔◌, ℕ, List, [], ◌∷◌, ◌++◌, length, true, IfOk, IfErr, OnOk};
-ghost use Rattle.hb_flow.specs.Messages.{record_bytes, response_bytes};
+ghost use Rattle.hb_flow.specs.Messages.{record_bytes, response_bytes, oversized};
 ghost use Rattle.hb_listring.specs.Log.{StandsFor};
 ghost use Rattle.hb_frame.specs.Frames.{longest_body};
-ghost use Rattle.hubblet.specs.Limits.{longest_record};
-ghost use Rattle.hubblet.specs.Ingest.{TakesMessage, IsUntakenMessage, IsUnkept, IsUntaken, Ingests};
+ghost use Rattle.hubblet.specs.Node.{kept};
+ghost use Rattle.hubblet.specs.Ingest.{HasPut, TakesMessage, IsUntakenMessage, IsUntaken, Ingests};
 
 use crate::frames::first_frame;
-use hb_flow::{DecodeFault, Event, GetFlowsResponse, ResponseTypes, record_of};
+use hb_flow::{DecodeFault, Event, GetFlowsResponse, ResponseTypes, oversize, record_of};
 use hb_frame::{BODY, MESSAGE};
 use hb_listring::ListRing;
 use hb_look::{Keep, Put};
 use hb_wire::NoMemory;
 use std::alloc::Global;
-
-/// The greatest length of a flow's record, in bytes.
-pub const RECORD: usize = 8_192;
 
 /// The length up to which a text, a node's status, or the bytes of fields that are not known, are small:
 /// an answer that has no longer ones fits a frame, whatever its other fields are.
@@ -26,8 +23,6 @@ const SMALL: usize = 16_000;
 pub enum Untaken {
     /// The frame that starts at this place is not whole, is refused, or its message is bad.
     BadRecord { at: u64 },
-    /// A message has a form that is not taken yet.
-    OtherForm,
     /// Memory was refused.
     NoMemory,
 }
@@ -42,11 +37,11 @@ impl From<NoMemory> for Untaken {
     }
 }
 
-/// Puts the records of a recording's flows into an empty ring, in order. The cost of a frame goes by
+/// Puts the records of a recording's events into an empty ring, in order. The cost of a frame goes by
 /// its own length. What is spelled goes into one vector that all frames share.
 pub fn ingest(alloc: Global, file: &[u8], ring: &mut ListRing) -> Result<(), Untaken>
     requires empty { StandsFor ring.old [] }
-    requires slot { ring.old.slot ≡ RECORD }
+    requires slot { 64 ≤ ring.old.slot }
     ensures ok { OnOk result (Ingests file.now ring.new) }
     ensures err { IfErr result (IsUntaken file.now) }
     ensures limits { (ring.new.capacity ≡ ring.old.capacity) × (ring.new.slot ≡ ring.old.slot) }
@@ -66,7 +61,7 @@ pub fn ingest(alloc: Global, file: &[u8], ring: &mut ListRing) -> Result<(), Unt
     Ok(())
 }
 
-/// Puts the record of a message's flow into the ring, where it has one. The message stands in the
+/// Puts the record of a message's event into the ring, where it has one. The message stands in the
 /// frame that starts at this place. What the vector holds is overwritten.
 fn take_message(
     alloc: Global,
@@ -75,7 +70,7 @@ fn take_message(
     scratch: &mut Vec<u8>,
     ring: &mut ListRing,
 ) -> Result<(), Untaken>
-    requires slot { ring.old.slot ≡ RECORD }
+    requires slot { 64 ≤ ring.old.slot }
     requires room { ring.old.written < 2 ^ 62 }
     ensures ok { OnOk result (TakesMessage message.now ring.old ring.new) }
     ensures err { IfErr result (IsUntakenMessage message.now at) }
@@ -90,13 +85,10 @@ fn take_message(
     if !fits_frame(&response, scratch)? {
         return Err(Untaken::BadRecord { at });
     }
-    let GetFlowsResponse { response_types, .. } = response;
-    match response_types {
-        Some(ResponseTypes::Flow(flow)) => keep(&Event::Flow(flow), scratch, ring),
-        Some(ResponseTypes::NodeStatus(_)) => Err(Untaken::OtherForm),
-        Some(ResponseTypes::LostEvents(_)) => Err(Untaken::OtherForm),
-        None => Ok(()),
+    if let Some(event) = response.into_event() {
+        keep(alloc, &event, scratch, ring)?;
     }
+    Ok(())
 }
 
 /// Whether the answer, spelled anew, fits a frame. It is spelled only where it is not small.
@@ -129,22 +121,49 @@ fn is_small(response: &GetFlowsResponse) -> bool
     }
 }
 
-/// Puts the record of an event into the ring.
-fn keep(event: &Event, record: &mut Vec<u8>, ring: &mut ListRing) -> Result<(), Untaken>
-    requires slot { ring.old.slot ≡ RECORD }
+/// Puts what the ring keeps of an event into it: where its record is too long, what stands for it.
+fn keep(
+    alloc: Global,
+    event: &Event,
+    record: &mut Vec<u8>,
+    ring: &mut ListRing,
+) -> Result<(), NoMemory>
+    requires slot { 64 ≤ ring.old.slot }
     requires room { ring.old.written < 2 ^ 62 }
-    ensures ok { OnOk result ((length (record_bytes event.now) ≤ longest_record)
-        × ((log : List (List ℕ)) → StandsFor ring.old log
-        → StandsFor ring.new (log ++ record_bytes event.now ∷ []))) }
-    ensures err { IfErr result (IsUnkept event.now) }
+    ensures ok { OnOk result
+        (HasPut (record_bytes (kept ring.old.slot event.now) ∷ []) ring.old ring.new) }
     ensures limits { (ring.new.capacity ≡ ring.old.capacity) × (ring.new.slot ≡ ring.old.slot) }
 {
     record.clear();
     record_of(event, record)?;
     match ring.put(record.as_slice()) {
         Put::Done => Ok(()),
-        Put::TooLong => Err(Untaken::OtherForm),
+        Put::TooLong => keep_oversized(alloc, event, record, ring),
         Put::Spent => unreachable!(),
-        Put::NoMemory => Err(Untaken::NoMemory),
+        Put::NoMemory => Err(NoMemory),
+    }
+}
+
+/// Puts what stands for an event whose record is too long.
+fn keep_oversized(
+    alloc: Global,
+    event: &Event,
+    record: &mut Vec<u8>,
+    ring: &mut ListRing,
+) -> Result<(), NoMemory>
+    requires slot { 64 ≤ ring.old.slot }
+    requires room { ring.old.written < 2 ^ 62 }
+    ensures ok { OnOk result
+        (HasPut (record_bytes (oversized event.now) ∷ []) ring.old ring.new) }
+    ensures limits { (ring.new.capacity ≡ ring.old.capacity) × (ring.new.slot ≡ ring.old.slot) }
+{
+    let lost = oversize(alloc, event)?;
+    record.clear();
+    record_of(&lost, record)?;
+    match ring.put(record.as_slice()) {
+        Put::Done => Ok(()),
+        Put::TooLong => unreachable!(),
+        Put::Spent => unreachable!(),
+        Put::NoMemory => Err(NoMemory),
     }
 }

@@ -21,8 +21,6 @@ pub enum Status {
     NoMemory,
     /// The file has more than 2^30 bytes.
     TooLarge { file: Text },
-    /// The file has a form that is not taken yet.
-    OtherForm { file: Text },
 }
 
 impl Status {
@@ -40,7 +38,6 @@ impl Status {
             Status::BadRecord { .. } => 5,
             Status::NoMemory => 9,
             Status::TooLarge { .. } => 12,
-            Status::OtherForm { .. } => 13,
         }
     }
 
@@ -60,7 +57,6 @@ impl Status {
             }
             Status::NoMemory => Ok(String::from_str(alloc, "no memory")?),
             Status::TooLarge { file } => file_line(alloc, file, ": too large"),
-            Status::OtherForm { file } => file_line(alloc, file, ": form not built"),
         }
     }
 }

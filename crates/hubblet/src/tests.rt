@@ -4,9 +4,15 @@ use hb_edge::{MemShelf, MemSink, SetClock};
 use hb_wire::Text;
 use std::test::Fail;
 
+mod asked;
+mod events;
 mod faults;
 mod sessions;
 mod spellings;
+mod words;
+
+/// The words of a command with no option but the output.
+const PLAIN: [&str; 4] = ["observe", "f", "--output", "frames"];
 
 /// The end of a reply.
 const OK: [u8; 5] = [2, 0, 0, 0, 0];
@@ -20,25 +26,32 @@ const ANSWER: [u8; 34] = [
     104, 111, 115, 116, 202, 62, 2, 8, 1,
 ];
 
-fn ran(
-    rt: HostRuntime,
-    words: &[&str],
-    shelf: &mut MemShelf,
-    out: &mut MemSink,
-) -> Result<Status, Fail> {
+/// The field of the node's name `localhost`.
+const NAME: [u8; 12] = [
+    0xc2, 0x3e, 0x09, 0x6c, 0x6f, 0x63, 0x61, 0x6c, 0x68, 0x6f, 0x73, 0x74,
+];
+
+/// A message, and what its answer holds around the node's name: the event before it and the time
+/// behind it.
+type Spelling = (&'static [u8], &'static [u8], &'static [u8]);
+
+/// Two lists of words, one behind the other, as a program is given them.
+fn joined(rt: HostRuntime, front: &[&str], words: &[&str]) -> Result<Vec<String>, Fail> {
     let mut owned = Vec::new(rt.alloc());
-    for word in words {
+    for word in front.iter().chain(words) {
         owned.push(String::from_str(rt.alloc(), word)?)?;
     }
-    Ok(run(rt.alloc(), &owned, shelf, out, &SetClock::new(0)))
+    Ok(owned)
 }
 
+/// The status and its line, for these words.
 fn observed(
     rt: HostRuntime,
+    words: &[String],
     shelf: &mut MemShelf,
     out: &mut MemSink,
 ) -> Result<(u8, String), Fail> {
-    let status = ran(rt, &["observe", "f", "--output", "frames"], shelf, out)?;
+    let status = run(rt.alloc(), words, shelf, out, &SetClock::new(0));
     Ok((status.code(), status.line(rt.alloc())?))
 }
 
@@ -48,19 +61,51 @@ fn shelf_of(rt: HostRuntime, file: &[u8]) -> Result<MemShelf, Fail> {
     Ok(shelf)
 }
 
-/// What the file is answered: the status, its line and the output.
-fn answered(rt: HostRuntime, file: &[u8]) -> Result<(u8, String, Vec<u8>), Fail> {
+/// What words are answered where this is the file: the status, its line and the output.
+fn replied(rt: HostRuntime, words: &[String], file: &[u8]) -> Result<(u8, String, Vec<u8>), Fail> {
     let mut out = MemSink::new(rt.alloc())?;
-    let (code, line) = observed(rt, &mut shelf_of(rt, file)?, &mut out)?;
+    let (code, line) = observed(rt, words, &mut shelf_of(rt, file)?, &mut out)?;
     Ok((code, line, out.sent().to_vec(rt.alloc())?))
+}
+
+/// What the file is answered, without options.
+fn answered(rt: HostRuntime, file: &[u8]) -> Result<(u8, String, Vec<u8>), Fail> {
+    replied(rt, &joined(rt, &PLAIN, &[])?, file)
+}
+
+/// That the words are taken with this file, and that these frames and the end are their reply.
+fn is_replied_by(
+    rt: HostRuntime,
+    words: &[String],
+    file: &[u8],
+    frames: &[u8],
+) -> Result<bool, Fail> {
+    let (code, line, sent) = replied(rt, words, file)?;
+    let mut reply = frames.to_vec(rt.alloc())?;
+    reply.extend_from_slice(&OK)?;
+    Ok(code == 0 && line.is_empty() && sent == reply)
 }
 
 /// That the file is taken, and that these frames and the end are its reply.
 fn is_answered_by(rt: HostRuntime, file: &[u8], frames: &[u8]) -> Result<bool, Fail> {
-    let (code, line, sent) = answered(rt, file)?;
-    let mut reply = frames.to_vec(rt.alloc())?;
-    reply.extend_from_slice(&OK)?;
-    Ok(code == 0 && line.is_empty() && sent == reply)
+    is_replied_by(rt, &joined(rt, &PLAIN, &[])?, file, frames)
+}
+
+/// Whether the message is taken, and answered by the event, the node's name and the time.
+fn is_read_as(rt: HostRuntime, spelling: Spelling) -> Result<bool, Fail> {
+    let (message, event, time) = spelling;
+    let mut answer = event.to_vec(rt.alloc())?;
+    answer.extend_from_slice(&NAME)?;
+    answer.extend_from_slice(time)?;
+    is_answered_by(rt, &frame_of(rt, message)?, &frame_of(rt, &answer)?)
+}
+
+/// Whether the message is taken, but nothing is answered: alone, and before a flow.
+fn is_passed_over(rt: HostRuntime, message: &[u8]) -> Result<bool, Fail> {
+    let alone = frame_of(rt, message)?;
+    let mut before = frame_of(rt, message)?;
+    before.extend_from_slice(&ONE)?;
+    Ok(is_answered_by(rt, &alone, &[])? && is_answered_by(rt, &before, &ANSWER)?)
 }
 
 /// Appends the frame of a message.
@@ -179,46 +224,6 @@ fn frames_are_answered_in_order(rt: HostRuntime) -> Result<(), Fail> {
 }
 
 #[test]
-fn a_record_has_at_most_8192_bytes(rt: HostRuntime) -> Result<(), Fail> {
-    // A uuid, and a field that is not known.
-    let cases: [(&[u8], u32, u8); 4] = [
-        (&[146, 2], 8_185, 0),
-        (&[146, 2], 8_186, 13),
-        (&[58], 8_186, 0),
-        (&[58], 8_187, 13),
-    ];
-    for (tag, letters, want) in cases {
-        let message = flow_message(rt, &with_letters(rt, &[], tag, letters)?)?;
-        let (code, _, _) = answered(rt, &frame_of(rt, &message)?)?;
-        assert_eq!(rt; code, want, "{letters} letters");
-    }
-    Ok(())
-}
-
-#[test]
-fn a_record_is_of_the_flow_anew(rt: HostRuntime) -> Result<(), Fail> {
-    // 5,000 verdicts are one.
-    let mut verdicts = Vec::new(rt.alloc());
-    for _ in 0..5_000 {
-        verdicts.extend_from_slice(&[16, 1])?;
-    }
-    let file = frame_of(rt, &flow_message(rt, &verdicts)?)?;
-    let answer = [
-        0, 0, 0, 0, 16, 10, 2, 16, 1, 194, 62, 9, 108, 111, 99, 97, 108, 104, 111, 115, 116,
-    ];
-    assert!(rt; is_answered_by(rt, &file, &answer)?);
-    // What two flows of one message hold is in one record: of 8,191 bytes, and of 8,193.
-    for (letters, want) in [(4_091, 0), (4_092, 13)] {
-        let flow = with_letters(rt, &[], &[58], letters)?;
-        let mut message = flow_message(rt, &flow)?;
-        put_field(&mut message, &[10], &flow)?;
-        let (code, _, _) = answered(rt, &frame_of(rt, &message)?)?;
-        assert_eq!(rt; code, want, "{letters} letters");
-    }
-    Ok(())
-}
-
-#[test]
 fn long_fields_beside_a_flow_are_passed_over(rt: HostRuntime) -> Result<(), Fail> {
     // The message of `ONE`.
     let flow = [10, 10, 10, 2, 8, 1, 16, 1, 146, 2, 1, 48];
@@ -300,29 +305,8 @@ fn the_newest_4095_flows_are_answered(rt: HostRuntime) -> Result<(), Fail> {
 }
 
 #[test]
-fn other_words_are_refused(rt: HostRuntime) -> Result<(), Fail> {
-    let lists: [&[&str]; 8] = [
-        &[],
-        &["observe"],
-        &["observe", "f"],
-        &["observe", "f", "--output"],
-        &["observe", "f", "--output", "json"],
-        &["observe", "f", "--output", "frames", "more"],
-        &["observe", "--output", "frames", "f"],
-        &["print", "f", "--output", "frames"],
-    ];
-    for words in lists {
-        let mut out = MemSink::new(rt.alloc())?;
-        let status = ran(rt, words, &mut shelf_of(rt, &ONE)?, &mut out)?;
-        assert_eq!(rt; status.code(), 2, "{words:?}");
-        assert_eq!(rt; status.line(rt.alloc())?.as_str(), "bad words");
-        assert!(rt; out.sent().is_empty(), "{words:?}");
-    }
-    Ok(())
-}
-
-#[test]
 fn a_read_that_fails_is_told(rt: HostRuntime) -> Result<(), Fail> {
+    let words = joined(rt, &PLAIN, &[])?;
     // The second read finds the end. A call that does not come fails nothing.
     for (failing, want) in [
         (1, (3, "f: read failed")),
@@ -332,12 +316,12 @@ fn a_read_that_fails_is_told(rt: HostRuntime) -> Result<(), Fail> {
         let mut shelf = shelf_of(rt, &ONE)?;
         shelf.set_fail(&[failing])?;
         let mut out = MemSink::new(rt.alloc())?;
-        let (code, line) = observed(rt, &mut shelf, &mut out)?;
+        let (code, line) = observed(rt, &words, &mut shelf, &mut out)?;
         assert_eq!(rt; (code, line.as_str()), want, "call {failing}");
         assert_eq!(rt; out.sent().is_empty(), code != 0, "call {failing}");
     }
     let mut out = MemSink::new(rt.alloc())?;
-    let (code, line) = observed(rt, &mut MemShelf::new(rt.alloc())?, &mut out)?;
+    let (code, line) = observed(rt, &words, &mut MemShelf::new(rt.alloc())?, &mut out)?;
     assert_eq!(rt;
         (code, line.as_str()),
         (3, "f: read failed"),
@@ -348,6 +332,7 @@ fn a_read_that_fails_is_told(rt: HostRuntime) -> Result<(), Fail> {
 
 #[test]
 fn a_write_that_fails_leaves_a_front(rt: HostRuntime) -> Result<(), Fail> {
+    let words = joined(rt, &PLAIN, &[])?;
     let mut reply = ANSWER.to_vec(rt.alloc())?;
     reply.extend_from_slice(&OK)?;
     // One byte a write, so that 39 writes are due.
@@ -360,7 +345,7 @@ fn a_write_that_fails_leaves_a_front(rt: HostRuntime) -> Result<(), Fail> {
         let mut out = MemSink::new(rt.alloc())?;
         out.set_piece(1);
         out.set_fail(&[failing])?;
-        let (code, line) = observed(rt, &mut shelf_of(rt, &ONE)?, &mut out)?;
+        let (code, line) = observed(rt, &words, &mut shelf_of(rt, &ONE)?, &mut out)?;
         assert_eq!(rt; (code, line.as_str()), want, "call {failing}");
         assert_eq!(rt; Some(out.sent()), reply.get(..held), "call {failing}");
     }
@@ -385,11 +370,6 @@ fn each_status_has_a_code_and_a_line(rt: HostRuntime) -> Result<(), Fail> {
         ),
         (Status::NoMemory, 9, "no memory"),
         (Status::TooLarge { file: file()? }, 12, "a/b: too large"),
-        (
-            Status::OtherForm { file: file()? },
-            13,
-            "a/b: form not built",
-        ),
     ] {
         assert_eq!(rt; status.code(), code);
         assert_eq!(rt; status.line(rt.alloc())?.as_str(), line);

@@ -5,8 +5,6 @@ const DONE: (u8, &str) = (0, "");
 
 const BAD: (u8, &str) = (5, "f: bad record at 0");
 
-const NOT_BUILT: (u8, &str) = (13, "f: form not built");
-
 /// Whether the file is refused with this status and line, and nothing is written.
 fn is_refused(rt: HostRuntime, file: &[u8], status: (u8, &str)) -> Result<bool, Fail> {
     let (code, line, sent) = answered(rt, file)?;
@@ -18,13 +16,6 @@ fn is_bad(rt: HostRuntime, frame: &[u8]) -> Result<bool, Fail> {
     let mut behind = ONE.to_vec(rt.alloc())?;
     behind.extend_from_slice(frame)?;
     Ok(is_refused(rt, frame, BAD)? && is_refused(rt, &behind, (5, "f: bad record at 17"))?)
-}
-
-/// Whether the message has a form that is not built, alone and behind a good frame.
-fn is_not_built(rt: HostRuntime, message: &[u8]) -> Result<bool, Fail> {
-    let mut behind = ONE.to_vec(rt.alloc())?;
-    put_message(&mut behind, message)?;
-    Ok(is_refused(rt, &frame_of(rt, message)?, NOT_BUILT)? && is_refused(rt, &behind, NOT_BUILT)?)
 }
 
 /// Two flows, in frames of 17 and of 13 bytes.
@@ -184,7 +175,7 @@ const NO_ENDS: [&[u8]; 32] = [
 ];
 
 /// Messages with lost events that have a field which no message can have, or which does not end.
-const NO_LOST_EVENTS: [&[u8]; 6] = [
+const NO_LOST_EVENTS: [&[u8]; 8] = [
     // A group alone, before a flow that counts, before lost events that have none, and behind a flow.
     &[0x1a, 0x02, 0x0b, 0x24],
     &[0x1a, 0x02, 0x0b, 0x24, 0x0a, 0x02, 0x10, 0x01],
@@ -193,6 +184,9 @@ const NO_LOST_EVENTS: [&[u8]; 6] = [
     // A count that is cut, and a processor of number 0.
     &[0x1a, 0x02, 0x10, 0x80],
     &[0x1a, 0x04, 0x1a, 0x02, 0x00, 0x00],
+    // A processor that is cut in its number, and one that does not end.
+    &[0x1a, 0x03, 0x1a, 0x01, 0x08],
+    &[0x1a, 0x03, 0x1a, 0x02, 0x08],
 ];
 
 /// Messages with a text that is not UTF-8.
@@ -251,52 +245,26 @@ fn a_place_counts_all_before_it(rt: HostRuntime) -> Result<(), Fail> {
     Ok(())
 }
 
-/// Messages whose last member is no flow, but a node's status or lost events.
-const OTHER_EVENTS: [&[u8]; 13] = [
-    &[0x12, 0x00],
-    &[0x1a, 0x00],
-    &[0x1a, 0x04, 0x08, 0x03, 0x10, 0x03],
-    // Behind a flow, also where lost events come before it too.
-    &[0x0a, 0x02, 0x10, 0x01, 0x12, 0x00],
-    &[0x0a, 0x02, 0x10, 0x01, 0x1a, 0x00],
-    &[0x0a, 0x02, 0x10, 0x01, 0x1a, 0x04, 0x08, 0x03, 0x10, 0x03],
-    &[0x1a, 0x00, 0x0a, 0x02, 0x10, 0x01, 0x1a, 0x00],
-    // A tag and a length that are longer than needed.
-    &[0x92, 0x00, 0x80, 0x00],
-    &[0x9a, 0x80, 0x00, 0x00],
-    // A status that is no message.
-    &[0x12, 0x01, 0xff],
-    // Behind what is not known, behind a name, and behind the same number of another wire type.
-    &[0x22, 0x00, 0x20, 0x05, 0x1a, 0x00],
-    &[0xc2, 0x3e, 0x01, 0x78, 0x12, 0x00],
-    &[0x10, 0x05, 0x1d, 0x01, 0x02, 0x03, 0x04, 0x12, 0x00],
-];
-
-#[test]
-fn other_events_are_not_built(rt: HostRuntime) -> Result<(), Fail> {
-    for message in OTHER_EVENTS {
-        assert!(rt; is_not_built(rt, message)?, "{message:?}");
-    }
-    Ok(())
-}
-
-/// Recordings with a frame of another form, and with a bad one or a bad field.
+/// Recordings with another event, a node's status or lost events, and with a bad frame or field.
 const FIRST: [(&[u8], (u8, &str)); 11] = [
-    // The other form before an end of a group, a cut and a kind of 4.
+    // Another event before an end of a group, a cut and a kind of 4.
     (
         &[
             0x00, 0x00, 0x00, 0x00, 0x02, 0x12, 0x00, 0x00, 0x00, 0x00, 0x00, 0x01, 0x24,
         ],
-        NOT_BUILT,
+        (5, "f: bad record at 7"),
     ),
-    (&[0x00, 0x00, 0x00, 0x00, 0x02, 0x1a, 0x00, 0x00], NOT_BUILT),
+    (
+        &[0x00, 0x00, 0x00, 0x00, 0x02, 0x1a, 0x00, 0x00],
+        (5, "f: bad record at 7"),
+    ),
     (
         &[
             0x00, 0x00, 0x00, 0x00, 0x02, 0x1a, 0x00, 0x04, 0x00, 0x00, 0x00, 0x00,
         ],
-        NOT_BUILT,
+        (5, "f: bad record at 7"),
     ),
-    // The other form behind an end of a group, a kind of 4, and a message without a flow.
+    // Another event behind an end of a group, a kind of 4, and a message without an event.
     (
         &[
             0x00, 0x00, 0x00, 0x00, 0x01, 0x24, 0x00, 0x00, 0x00, 0x00, 0x02, 0x12, 0x00,
@@ -365,14 +333,13 @@ const LONG: [(&[u8], &[u8], u32, (u8, &str)); 22] = [
     (&VERDICT, &[0x22], 65_519, DONE),
     (&VERDICT, &[0x22], 65_520, BAD),
     // Another event, without the flow before it: a status, and lost events of fields that are not known,
-    // each of five letters.
-    (&VERDICT, &[0x12], 65_519, NOT_BUILT),
-    (&VERDICT, &[0x1a], 65_520, NOT_BUILT),
+    // each of five letters. It is bad only where the answer anew is too long.
+    (&VERDICT, &[0x12], 65_519, DONE),
+    (&VERDICT, &[0x1a], 65_520, DONE),
     (&VERDICT, &[0x1a], 65_519, BAD),
-    // It is of a form that is not built only where the message is not bad: behind the answer's own time.
-    (&TIME, &[0x12], 65_518, NOT_BUILT),
+    (&TIME, &[0x12], 65_518, DONE),
     (&TIME, &[0x12], 65_519, BAD),
-    (&TIME, &[0x1a], 65_515, NOT_BUILT),
+    (&TIME, &[0x1a], 65_515, DONE),
     (&TIME, &[0x1a], 65_520, BAD),
     // Behind two numbers that grow by 5 bytes each: of 65,526 bytes and anew 65,536.
     (&VERDICT_AND_TIME, &[0xc2, 0x3e], 65_505, DONE),
@@ -405,33 +372,6 @@ fn an_answer_anew_has_at_most_65536_bytes(rt: HostRuntime) -> Result<(), Fail> {
             code != 0,
             "{front:?} and {letters} letters"
         );
-    }
-    Ok(())
-}
-
-const VERDICT_FIELD: [u8; 6] = [0x10, 0xff, 0xff, 0xff, 0xff, 0x0f];
-
-/// Flows of some bytes and then a field of so many letters, and what they are answered.
-const LONG_FLOWS: [(&[u8], &[u8], u32, (u8, &str)); 8] = [
-    // Behind verdict -1 in five bytes a uuid: the record has 8,192 bytes, 8,193, 65,536 and 65,537.
-    (&VERDICT_FIELD, &[0x92, 0x02], 8_174, DONE),
-    (&VERDICT_FIELD, &[0x92, 0x02], 8_175, NOT_BUILT),
-    (&VERDICT_FIELD, &[0x92, 0x02], 65_516, NOT_BUILT),
-    (&VERDICT_FIELD, &[0x92, 0x02], 65_517, BAD),
-    // A field that is not known.
-    (&VERDICT_FIELD, &[0x3a], 8_175, DONE),
-    (&VERDICT_FIELD, &[0x3a], 8_176, NOT_BUILT),
-    (&VERDICT_FIELD, &[0x3a], 65_517, NOT_BUILT),
-    (&VERDICT_FIELD, &[0x3a], 65_518, BAD),
-];
-
-#[test]
-fn a_record_too_long_is_not_built_where_it_is_not_bad(rt: HostRuntime) -> Result<(), Fail> {
-    for (front, tag, letters, want) in LONG_FLOWS {
-        let message = flow_message(rt, &with_letters(rt, front, tag, letters)?)?;
-        let (code, line, sent) = answered(rt, &frame_of(rt, &message)?)?;
-        assert_eq!(rt; (code, line.as_str()), want, "{letters} letters");
-        assert_eq!(rt; sent.is_empty(), code != 0, "{letters} letters");
     }
     Ok(())
 }

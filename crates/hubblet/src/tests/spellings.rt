@@ -1,24 +1,6 @@
 //! Messages in spellings of all kinds, and what they are answered.
 use super::*;
 
-/// A message, and what its answer holds around the node's name: the flow before it and the time
-/// behind it.
-type Spelling = (&'static [u8], &'static [u8], &'static [u8]);
-
-/// The field of the node's name `localhost`.
-const NAME: [u8; 12] = [
-    0xc2, 0x3e, 0x09, 0x6c, 0x6f, 0x63, 0x61, 0x6c, 0x68, 0x6f, 0x73, 0x74,
-];
-
-/// Whether the message is taken, and answered by the flow, the node's name and the time.
-fn is_read_as(rt: HostRuntime, spelling: Spelling) -> Result<bool, Fail> {
-    let (message, flow, time) = spelling;
-    let mut answer = flow.to_vec(rt.alloc())?;
-    answer.extend_from_slice(&NAME)?;
-    answer.extend_from_slice(time)?;
-    is_answered_by(rt, &frame_of(rt, message)?, &frame_of(rt, &answer)?)
-}
-
 /// Recordings and the frames of their answers, whole.
 const WHOLE: [(&[u8], &[u8]); 4] = [
     // A field that is not known, before the flow's time.
@@ -509,8 +491,8 @@ fn what_is_not_known_stands_behind(rt: HostRuntime) -> Result<(), Fail> {
     Ok(())
 }
 
-/// Messages that hold no flow and no other event.
-const WITHOUT_FLOW: [&[u8]; 9] = [
+/// Messages that hold no member.
+const WITHOUT_EVENT: [&[u8]; 9] = [
     &[],
     // A name, an empty one, and a time.
     &[0xc2, 0x3e, 0x01, 0x78],
@@ -526,15 +508,9 @@ const WITHOUT_FLOW: [&[u8]; 9] = [
 ];
 
 #[test]
-fn messages_without_a_flow_are_passed_over(rt: HostRuntime) -> Result<(), Fail> {
-    for message in WITHOUT_FLOW {
-        let mut file = frame_of(rt, message)?;
-        assert!(rt; is_answered_by(rt, &file, &[])?, "{message:?}");
-        file.extend_from_slice(&ONE)?;
-        assert!(rt;
-            is_answered_by(rt, &file, &ANSWER)?,
-            "{message:?} before a flow"
-        );
+fn messages_without_an_event_are_passed_over(rt: HostRuntime) -> Result<(), Fail> {
+    for message in WITHOUT_EVENT {
+        assert!(rt; is_passed_over(rt, message)?, "{message:?}");
     }
     Ok(())
 }

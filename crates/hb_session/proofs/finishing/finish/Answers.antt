@@ -9,7 +9,7 @@ use Rattle.hb_session.specs.declared.turn.Turn.{Turn}
 use Rattle.hb_session.specs.declared.turn.Turn.TheVariants as turns
 use Rattle.hb_session.specs.Replies.{Opening}
 use Rattle.hb_session.specs.Sessions.{AreFoundAt, Session, HaveTurned, added, gained}
-use Rattle.hb_session.proofs.Turned.{not_turned, turned_more, turning_more, taken_both, rose_on, done_more, which, few_turns, GoesOn, goes, goes_remembering, goes_open, goes_moving, later_same, later_both, all_none, all_added, counted_more}
+use Rattle.hb_session.proofs.Turned.{not_turned, turned_more, turning_more, taken_both, rose_on, done_more, which, few_turns, GoesOn, goes, goes_remembering, goes_open, goes_moving, later_same, later_both, all_none, all_added, counted_more, writes_more}
 use Rattle.hb_session.proofs.Looked.{none_added}
 use Rattle.hb_session.proofs.Sessions.{no_answer}
 use Rattle.hb_session.proofs.finishing.finish.Goals as goal
@@ -37,6 +37,7 @@ loop-answer-init g c =
       λ log tells. all_none (λ look. IsFoundAt log (g.R.Look.capacity c.args.reader.now) look.position look.found) l0,
       λ log tells stands. stands,
       omega (arith, ap length (none_added l0 l0 refl)),
+      λ h held fed. ([], refl),
     )
 
 pub returns-then-not-goes_on-clause-turned : goal.returns-then-not-goes_on-clause-turned
@@ -132,6 +133,8 @@ loop-answer-preserved g c =
           (told.told_log log (inv.6 log tells)
           (subst (λ (cap : ℕ). ReaderStandsFor log cap (g.R.Look.reader c.loop-answer.reader)) (sym inv.7) (inv.18 log tells stands))),
       counted_more l0 l m c.loop-answer.turns c.saturating_add-turns.result inv.1.turned.listed turn.listed told.listed.1 inv.19 c.saturating_add-turns.ensures,
+      λ h held fed. writes_more g.L.Link.write_after c.args.link.now c.loop-answer.link c.turn-answer.new.link s.reply.waiting (inv.20 h held (told.fed fed))
+          (told.writes (record h { taken = h.taken ++ inv.0 }) (inv.1.told h held) fed),
     )
 
 pub returns-then-not-goes_on-clause-found : goal.returns-then-not-goes_on-clause-found
@@ -143,3 +146,11 @@ returns-then-not-goes_on-clause-found g c log tells =
     let m : List LookMade = (g.R.Look.reader c.turn-answer.new.reader).looks in
     all_added (λ look. IsFoundAt log (g.R.Look.capacity c.args.reader.now) look.position look.found) l0 l m inv.1.turned.listed told.listed.0 (inv.17 log tells)
     (subst (λ (cap : ℕ). AreFoundAt log cap l m) inv.7 (told.found log (inv.6 log tells)))
+
+pub returns-then-not-goes_on-clause-link : goal.returns-then-not-goes_on-clause-link
+returns-then-not-goes_on-clause-link g c h held fed =
+    let inv = c.loop-answer.invariant in
+    let told = c.turn-answer.ensures in
+    let s : Session = c.loop-answer.session in
+    writes_more g.L.Link.write_after c.args.link.now c.loop-answer.link c.turn-answer.new.link s.reply.waiting (inv.20 h held (told.fed fed))
+    (told.writes (record h { taken = h.taken ++ inv.0 }) (inv.1.told h held) fed)

@@ -1,10 +1,11 @@
 use Rattle.std.proofs.Common.{◌≡◌, None, Some, false, ℕ, min, max, ◌<◌, ◌+◌, ◌-◌, ◌*◌, ◌^◌, ◌≤◌, List, length}
 use Rattle.std.specs.List.{All}
+use Rattle.std.specs.Option.{ForSome}
 use Rattle.hb_look.specs.Looks.{after}
 use Rattle.hb_look.specs.Reader.{IsLater, ReaderStandsFor}
 use Rattle.hb_session.specs.declared.turn.Turn.{Turn}
 use Rattle.hb_session.specs.Sessions.{left, added, AreFoundAt}
-use Rattle.hb_session.proofs.Turned.{IsTurning}
+use Rattle.hb_session.proofs.Turned.{IsTurning, AreWrites}
 use Rattle.hb_session.proofs.finishing.finish.Given as goal
 
 -- the turns so far, and that no count has fallen
@@ -29,6 +30,7 @@ invariant-loop-answer g l = (gained : List ℕ)
     × ((log : List (List ℕ)) → g.R.Look.tells l.fn.reader log → ReaderStandsFor log (g.R.Look.capacity l.fn.reader) (g.R.Look.reader l.fn.reader)
     → ReaderStandsFor log (g.R.Look.capacity l.fn.reader) (g.R.Look.reader l.reader))
     × (min (length (added (g.R.Look.reader l.fn.reader).looks (g.R.Look.reader l.reader).looks)) (2 ^ 64 - 1) ≤ l.turns)
+    × ForSome (g.L.Link.held l.fn.link) (λ _. g.L.Link.starved l.link ≡ false → AreWrites g.L.Link.write_after l.fn.link l.link)
 
 -- positions that are left, then bytes that wait, then the turns for which the link may make it wait
 abbrev pub decreases-loop-answer : goal.decreases-loop-answer

@@ -1,5 +1,5 @@
 use Rattle.hubblet.proofs.Each.{each_file}
-use Rattle.hubblet.proofs.Recorded.{answers_once, place_once, recorded_not_bad, recorded_not_other, bad_not_other}
+use Rattle.hubblet.proofs.Recorded.{answers_once, place_once, recorded_not_bad}
 use Rattle.hubblet.proofs.laws.one_reading.Goals as goal
 
 pub returns : goal.returns
@@ -8,6 +8,4 @@ returns c = record {
   answers = answers_once;
   place = place_once;
   not_bad = recorded_not_bad;
-  not_other = recorded_not_other;
-  bad_or_other = bad_not_other;
 }

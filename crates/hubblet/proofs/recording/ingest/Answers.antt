@@ -43,7 +43,7 @@ loop-rest-preserved c =
             capacity = ap (λ (r : Kept). r.capacity) w.ring-is ∙ w.take_message.ensures.limits.0 ∙ c.loop-rest.invariant.capacity;
             slot = ap (λ (r : Kept). r.slot) w.ring-is ∙ w.take_message.ensures.limits.1 ∙ c.loop-rest.invariant.slot;
             room = omega (arith, c.loop-rest.invariant.room, size, ap (λ (r : Kept). r.written) w.ring-is, written_with file rest body old new has takes);
-            has = subst (HasIngested file after) (sym w.ring-is) (ingested_message file rest body after old new has starts takes);
+            has = subst (HasIngested file after) (sym w.ring-is) (ingested_message file rest body after old new has starts takes w.take_message.ensures.limits.1);
           }
       | else-frame-eq-MESSAGE w ↦ record {
         capacity = ap (λ (r : Kept). r.capacity) w.ring-is ∙ c.loop-rest.invariant.capacity;

@@ -1,0 +1,4 @@
+pub mod Lengths
+pub mod Addresses
+pub mod Slashless
+pub mod Blocks

@@ -1,0 +1,9 @@
+pub mod Spans
+pub mod Pieces
+pub mod Values
+pub mod JoinedLemmas
+pub mod Closed
+pub mod Keys
+pub mod Operators
+pub mod OperatorReading
+pub mod Requirements

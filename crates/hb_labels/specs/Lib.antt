@@ -1,0 +1,4 @@
+pub mod Texts
+pub mod Selectors
+pub mod Meaning
+pub mod Reading
