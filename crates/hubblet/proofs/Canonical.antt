@@ -10,9 +10,10 @@ use Rattle.hb_flow.specs.Messages.{read_response, response_bytes, ResponseFits}
 use Rattle.hb_flow.specs.declared.response.GetFlowsResponse.{GetFlowsResponse}
 use Rattle.hb_flow.proofs.Again.{response_again, response_clean}
 use Rattle.hb_flow.proofs.Fitting.{response_fits}
-use Rattle.hubblet.specs.Frames.{Frame, IsFrame, frame_bytes, message_frame, message_in, messages}
+use Rattle.hb_frame.specs.Frames.{Frame, IsFrame, frame_bytes, message_frame, message_in, messages}
 use Rattle.hubblet.specs.Recording.{IsSound, Recorded, canonical}
-use Rattle.hubblet.proofs.Cuts.{nothing_starts, frames_after, rest_bytes}
+use Rattle.hb_frame.proofs.Cuts.{nothing_starts, frames_after}
+use Rattle.hb_frame.proofs.Each.{rest_bytes}
 
 -- ---- a message and the canonical spelling of its answer
 

@@ -9,9 +9,11 @@ use Rattle.hb_flow.specs.Faults.{response_fault}
 use Rattle.hb_flow.specs.Messages.{read_response, response_bytes}
 use Rattle.hb_flow.specs.declared.fault.DecodeFault.{DecodeFault}
 use Rattle.hb_flow.specs.declared.response.GetFlowsResponse.{GetFlowsResponse}
-use Rattle.hubblet.specs.Frames.{Frame, StartsNoFrame, frame_bytes, messages}
+use Rattle.hb_frame.specs.Frames.{Frame, frame_bytes, messages}
+use Rattle.hb_frame.specs.Cut.{StartsNoFrame}
 use Rattle.hubblet.specs.Recording.{IsSound, IsBad, TakesFrames, Recorded, IsBadFront, IsBadRecord}
-use Rattle.hubblet.proofs.Cuts.{rest_bytes, starts_or_not}
+use Rattle.hb_frame.proofs.Begins.{begun_or_stopped, stopped_starts_none}
+use Rattle.hb_frame.proofs.Each.{rest_bytes}
 use Rattle.hubblet.proofs.Ingested.{frame_size, starts_message}
 use Rattle.hubblet.proofs.Recorded.{SoundFrame, takes_more, all_recorded}
 
@@ -56,7 +58,7 @@ rest_ends file frames rest before none =
 each_from : (most : ℕ) (file : List ℕ) (frames : List Frame) (rest : List ℕ) → length rest ≤ most → AreBytes rest → TakesFrames file frames rest → Each file
 each_from zero file frames rest fits are before = inl (map read_response (messages frames), all_recorded file rest frames before (omega (arith, fits)))
 each_from (suc most) file frames rest fits are before =
-    elim (starts_or_not rest are) [
+    elim (begun_or_stopped rest are) [
       | inl begun ↦
           let f = begun.0 in
           let after = begun.1 in
@@ -66,7 +68,7 @@ each_from (suc most) file frames rest fits are before =
             | inl sound ↦ each_from most file (frames ++ f ∷ []) after (omega (arith, fits, frame_size rest f.body after f.kind next)) bytes (takes_more file rest after f frames before next sound)
             | inr bad ↦ bad_at file frames rest before (inr (f.body, after, starts_message rest f.body after f.kind next bad.0, bad.1))
           ]
-      | inr none ↦ rest_ends file frames rest before none
+      | inr stopped ↦ rest_ends file frames rest before (stopped_starts_none rest stopped)
     ]
 
 pub each_file : (file : List ℕ) → AreBytes file → Each file

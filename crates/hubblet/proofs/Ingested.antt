@@ -9,7 +9,8 @@ use Rattle.hb_flow.specs.Messages.{read_response, event_in, record_bytes}
 use Rattle.hb_flow.specs.declared.event.Event.{Event}
 use Rattle.hb_flow.specs.declared.response.GetFlowsResponse.{GetFlowsResponse}
 use Rattle.hb_listring.specs.Log.{Kept, StandsFor}
-use Rattle.hubblet.specs.Frames.{Frame, StartsFrame, StartsNoFrame, frame_bytes, message_frame, message_in, messages}
+use Rattle.hb_frame.specs.Frames.{Frame, frame_bytes, message_frame, message_in, messages}
+use Rattle.hb_frame.specs.Cut.{StartsFrame, StartsNoFrame}
 use Rattle.hubblet.specs.Recording.{TakesFrames, IsBadRecord}
 use Rattle.hubblet.specs.Node.{events, kept, log_of}
 use Rattle.hubblet.specs.Ingest.{Ingests, TakesMessage, IsUntakenMessage, IsUntaken}

@@ -1,6 +1,5 @@
 pub mod Canonical
 pub mod Completed
-pub mod Cuts
 pub mod Each
 pub mod Got
 pub mod Ingested

@@ -9,9 +9,10 @@ use Rattle.hb_flow.specs.Faults.{response_fault}
 use Rattle.hb_flow.specs.Messages.{read_response}
 use Rattle.hb_flow.specs.declared.fault.DecodeFault.{DecodeFault}
 use Rattle.hb_flow.specs.declared.response.GetFlowsResponse.{GetFlowsResponse}
-use Rattle.hubblet.specs.Frames.{Frame, StartsFrame, frame_bytes, message_frame, message_in, messages}
+use Rattle.hb_frame.specs.Frames.{Frame, frame_bytes, message_frame, message_in, messages}
+use Rattle.hb_frame.specs.Cut.{StartsFrame}
 use Rattle.hubblet.specs.Recording.{IsSound, IsBad, TakesFrames, Recorded, IsBadFront, IsBadRecord}
-use Rattle.hubblet.proofs.Cuts.{Stops, same_front, first_once, frames_with, nothing_starts}
+use Rattle.hb_frame.proofs.Cuts.{Stops, same_front, first_once, frames_with, nothing_starts}
 
 -- ---- a message is one thing only
 

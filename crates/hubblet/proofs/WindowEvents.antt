@@ -16,7 +16,7 @@ use Rattle.hb_listring.specs.Log.{window_start, window}
 use Rattle.hb_listring.proofs.Windows.{window_get, window_length}
 use Rattle.hb_session.specs.Events.{event_of_record, sound_event}
 use Rattle.hb_session.specs.Replies.{Opening}
-use Rattle.hubblet.specs.Frames.{messages}
+use Rattle.hb_frame.specs.Frames.{messages}
 use Rattle.hubblet.specs.Recording.{IsSound, Recorded}
 use Rattle.hubblet.specs.Words.{Job}
 use Rattle.hubblet.specs.Node.{events, kept, log_of, opening}

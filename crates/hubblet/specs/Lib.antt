@@ -1,6 +1,5 @@
 pub mod Observe
 pub mod Recording
-pub mod Frames
 pub mod Node
 pub mod Words
 pub mod Lines

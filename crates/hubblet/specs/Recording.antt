@@ -4,8 +4,8 @@ use Rattle.std.specs.List.{flat_map, AllByRecursion}
 use Rattle.hb_flow.specs.Faults.{response_fault}
 use Rattle.hb_flow.specs.Messages.{read_response, response_bytes}
 use Rattle.hb_flow.specs.declared.response.GetFlowsResponse.{GetFlowsResponse}
-use Rattle.hubblet.specs.Frames.{Frame, StartsFrame, StartsNoFrame, StartsFrames, IsCut, frame_bytes, message_frame, messages}
-use Rattle.hb_frame.specs.Frames.{longest_body}
+use Rattle.hb_frame.specs.Frames.{Frame, frame_bytes, longest_body, message_frame, messages}
+use Rattle.hb_frame.specs.Cut.{StartsFrame, StartsNoFrame, StartsFrames, IsCut}
 
 -- ---- a message
 

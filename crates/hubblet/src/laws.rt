@@ -5,7 +5,6 @@ ghost use Rattle.hb_wire.specs.Varint.{AreBytes};
 ghost use Rattle.hb_flow.specs.declared.response.GetFlowsResponse.{GetFlowsResponse};
 ghost use Rattle.hb_listring.specs.Log.{window};
 ghost use Rattle.hb_session.specs.Events.{is_flow};
-ghost use Rattle.hubblet.specs.Frames.{Frame, IsCut};
 ghost use Rattle.hubblet.specs.Words.{Job, IsWithin, job};
 ghost use Rattle.hubblet.specs.Node.{IsOutput, GivesFirst, GivesLast, frames_of, window_of};
 ghost use Rattle.hubblet.specs.Recording.{Recorded, IsBadRecord, canonical};
@@ -14,14 +13,6 @@ ghost use Rattle.hubblet.specs.Recording.{Recorded, IsBadRecord, canonical};
 /// too long.
 pub fn job_limits()
     ensures within { (words : List (List ℕ)) (j : Job) → job words ≡ Some j → IsWithin j }
-{}
-
-/// Bytes are cut into frames in one way, and only one.
-pub fn one_cut()
-    ensures each { (bytes : List ℕ) → AreBytes bytes
-        → (frames : List Frame) × (rest : List ℕ) × IsCut bytes frames rest }
-    ensures one { (bytes x y : List ℕ) (fs gs : List Frame) → IsCut bytes fs x → IsCut bytes gs y
-        → (fs ≡ gs) × (x ≡ y) }
 {}
 
 /// A file is a recording of one list of answers, or bad at one place, and not both. So the status

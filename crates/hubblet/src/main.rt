@@ -3,7 +3,6 @@
 //! what each exit status tells of the file and of the output. `main` gives it the system's.
 #![tactic(auto)]
 
-mod frames;
 mod laws;
 mod observe;
 mod reading;
@@ -17,7 +16,7 @@ mod writing;
 
 use hb_edge::{FileShelf, RealClock, StdoutSink};
 pub use laws::{
-    first_of_window, job_limits, last_of_window, one_cut, one_output, one_reading, one_spelling,
+    first_of_window, job_limits, last_of_window, one_output, one_reading, one_spelling,
     whole_window,
 };
 pub use observe::run;

@@ -6,9 +6,8 @@ ghost use Rattle.hb_frame.specs.Frames.{longest_body};
 ghost use Rattle.hubblet.specs.Node.{kept};
 ghost use Rattle.hubblet.specs.Ingest.{HasPut, TakesMessage, IsUntakenMessage, IsUntaken, Ingests};
 
-use crate::frames::first_frame;
 use hb_flow::{DecodeFault, Event, GetFlowsResponse, ResponseTypes, oversize, record_of};
-use hb_frame::{BODY, MESSAGE};
+use hb_frame::{BODY, Front, MESSAGE, front_of};
 use hb_listring::ListRing;
 use hb_look::{Keep, Put};
 use hb_wire::NoMemory;
@@ -50,13 +49,13 @@ pub fn ingest(alloc: Global, file: &[u8], ring: &mut ListRing) -> Result<(), Unt
     let mut rest = file;
     while !rest.is_empty() {
         let at = (file.len() - rest.len()) as u64;
-        let Some(frame) = first_frame(rest) else {
+        let Front::Frame { kind, body, after } = front_of(rest) else {
             return Err(Untaken::BadRecord { at });
         };
-        if frame.kind == MESSAGE {
-            take_message(alloc, at, frame.body, &mut scratch, ring)?;
+        if kind == MESSAGE {
+            take_message(alloc, at, body, &mut scratch, ring)?;
         }
-        rest = frame.after;
+        rest = after;
     }
     Ok(())
 }

@@ -1,0 +1,4 @@
+pub mod Cuts
+pub mod Begins
+pub mod Each
+pub mod Given
