@@ -6,7 +6,7 @@ use Rattle.std.proofs.lemmas.Bool.{cases_eq, ne_eqb}
 use Rattle.std.proofs.lemmas.List.{append-nil}
 use Rattle.hb_wire.specs.Varint.{AreBytes}
 use Rattle.hb_wire.specs.Field.{Content, Varint, Fixed64, Body, Fixed32}
-use Rattle.hb_flow.specs.declared.stamp.Stamp.{Stamp}
+use Rattle.hb_time.specs.declared.stamp.Stamp.{Stamp}
 use Rattle.hb_flow.specs.Fields.{Part, parts, numbers, bodies, last_or, joined, unknown}
 use Rattle.hb_flow.specs.Faults.{stamp_check}
 use Rattle.hb_flow.specs.Messages.{read_stamp}

@@ -1,7 +1,8 @@
 //! Rows of bytes worked out by hand from the Protocol Buffers encoding guide.
 
 use super::*;
-use hb_flow::{DecodeFault, Stamp};
+use hb_flow::DecodeFault;
+use hb_time::Stamp;
 use hb_wire::Seq;
 use std::alloc::Global;
 use std::process::Abort;

@@ -10,7 +10,7 @@ use Rattle.hb_flow.specs.Fields.{Part, parts, numbers, bodies, last_or, joined, 
 use Rattle.hb_flow.specs.Faults.{stamp_check, flow_check, response_check}
 use Rattle.hb_flow.specs.Messages.{int64, int32, read_stamp, read_flow, flow_row}
 use Rattle.hb_flow.specs.Steps.{no_stamp, no_flow, stamp_after, stamp_merged, flow_after}
-use Rattle.hb_flow.specs.declared.stamp.Stamp.{Stamp}
+use Rattle.hb_time.specs.declared.stamp.Stamp.{Stamp}
 use Rattle.hb_flow.proofs.Joining.{Joins, Sound, whole, parts_joined}
 use Rattle.hb_flow.proofs.Pieces.{all_append}
 use Rattle.hb_flow.proofs.NotKnown.{part_of, no_body, no_number}

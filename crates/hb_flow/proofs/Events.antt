@@ -6,7 +6,7 @@ use Rattle.std.proofs.lemmas.List.Concat.{flat_map-append}
 use Rattle.hb_wire.specs.Varint.{varint, varint_of}
 use Rattle.hb_wire.specs.Field.{Piece, Body, spelled, spelling}
 use Rattle.hb_flow.specs.Messages.{number_field, message_field, of_signed, stamp_bytes, lost_event_bytes, response_bytes, record_bytes, event_in, event_time, oversized, member_event, StampFits, MemberFits, ResponseFits, EventFits, lost_event_row}
-use Rattle.hb_flow.specs.declared.stamp.Stamp.{Stamp}
+use Rattle.hb_time.specs.declared.stamp.Stamp.{Stamp}
 use Rattle.hb_flow.specs.declared.lost_event.LostEvent.{LostEvent}
 use Rattle.hb_flow.specs.declared.response_types.ResponseTypes.{ResponseTypes}
 use Rattle.hb_flow.specs.declared.response_types.ResponseTypes.TheVariants as member

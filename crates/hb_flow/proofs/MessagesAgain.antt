@@ -11,7 +11,7 @@ use Rattle.hb_wire.specs.Field.{Piece, PieceFits, spelling}
 use Rattle.hb_flow.specs.Fields.{Part, parts, numbers, bodies, last_or, joined, Row, unknown}
 use Rattle.hb_flow.specs.Faults.{Check, message_fault, stamp_check, flow_check, int32_value_check, lost_event_check}
 use Rattle.hb_flow.specs.Messages.{int64, int32, of_signed, number_field, text_field, message_field, read_stamp, read_flow, read_int32_value, read_lost_event, stamp_bytes, flow_bytes, int32_value_bytes, lost_event_bytes, StampFits, FlowFits, Int32ValueFits, LostEventFits, SpellUnknown, flow_row, lost_event_row}
-use Rattle.hb_flow.specs.declared.stamp.Stamp.{Stamp}
+use Rattle.hb_time.specs.declared.stamp.Stamp.{Stamp}
 use Rattle.hb_flow.specs.declared.flow.Flow.{Flow}
 use Rattle.hb_flow.specs.declared.lost_event.Int32Value.{Int32Value}
 use Rattle.hb_flow.specs.declared.lost_event.LostEvent.{LostEvent}

@@ -9,7 +9,7 @@ use Rattle.hb_flow.specs.Fields.{Part, parts, bodies, members, last_or, unknown}
 use Rattle.hb_flow.specs.Faults.{stamp_check, response_check, response_fault}
 use Rattle.hb_flow.specs.Messages.{read_response, response_row}
 use Rattle.hb_flow.specs.Steps.{no_stamp, no_response, stamp_after, stamp_merged, flow_next, status_next, lost_events_next, response_after}
-use Rattle.hb_flow.specs.declared.stamp.Stamp.{Stamp}
+use Rattle.hb_time.specs.declared.stamp.Stamp.{Stamp}
 use Rattle.hb_flow.specs.declared.response_types.ResponseTypes.{ResponseTypes}
 use Rattle.hb_flow.proofs.Joining.{Joins, Sound, whole}
 use Rattle.hb_flow.proofs.NotKnown.{part_of, no_body, no_member}

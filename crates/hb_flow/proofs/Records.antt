@@ -1,7 +1,7 @@
 -- A message is made by its fields.
 use Rattle.std.proofs.Common.{◌≡◌, ℕ, List, Option, ap, ◌∙◌}
 use Rattle.std.specs.Prelude.{ℤ}
-use Rattle.hb_flow.specs.declared.stamp.Stamp.{Stamp}
+use Rattle.hb_time.specs.declared.stamp.Stamp.{Stamp}
 use Rattle.hb_flow.specs.declared.flow.Flow.{Flow}
 use Rattle.hb_flow.specs.declared.lost_event.Int32Value.{Int32Value}
 use Rattle.hb_flow.specs.declared.lost_event.LostEvent.{LostEvent}

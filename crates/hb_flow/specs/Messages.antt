@@ -8,7 +8,7 @@ use Rattle.std.specs.Option.{option_map}
 use Rattle.std.specs.List.{flat_map, AllByRecursion}
 use Rattle.hb_wire.specs.Field.{Varint, Body, Piece, SpellsField, spelling}
 use Rattle.hb_flow.specs.Fields.{Part, parts, numbers, bodies, last_or, joined, member_bodies, Row, knows, unknown}
-use Rattle.hb_flow.specs.declared.stamp.Stamp.{Stamp}
+use Rattle.hb_time.specs.declared.stamp.Stamp.{Stamp}
 use Rattle.hb_flow.specs.declared.flow.Flow.{Flow}
 use Rattle.hb_flow.specs.declared.lost_event.Int32Value.{Int32Value}
 use Rattle.hb_flow.specs.declared.lost_event.LostEvent.{LostEvent}

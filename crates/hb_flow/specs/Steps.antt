@@ -2,7 +2,7 @@
 use Rattle.std.specs.Prelude.{ℕ, List, [], Option, Some, None, unwrap_or, ◌++◌, ◌==◌, if◌then◌else◌, pos}
 use Rattle.std.specs.List.{fold}
 use Rattle.hb_wire.specs.Field.{Content, Varint, Fixed64, Body, Fixed32}
-use Rattle.hb_flow.specs.declared.stamp.Stamp.{Stamp}
+use Rattle.hb_time.specs.declared.stamp.Stamp.{Stamp}
 use Rattle.hb_flow.specs.declared.flow.Flow.{Flow}
 use Rattle.hb_flow.specs.declared.lost_event.Int32Value.{Int32Value}
 use Rattle.hb_flow.specs.declared.lost_event.LostEvent.{LostEvent}

@@ -27,7 +27,6 @@ pub use message::{Message, merge};
 pub use parts::{keep_unknown, merge_stamp};
 pub use response::GetFlowsResponse;
 pub use response_types::ResponseTypes;
-pub use stamp::Stamp;
 pub use writing::{put_number, put_optional, put_unknown};
 
 #[cfg(test)]

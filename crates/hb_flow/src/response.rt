@@ -8,7 +8,8 @@ use crate::message::{Message, merge};
 use crate::parts::{keep_unknown, merge_stamp, text_of};
 use crate::response_types::{put_member, take_flow, take_lost_events, take_status};
 use crate::writing::{put_optional, put_text, put_unknown};
-use crate::{DecodeFault, ResponseTypes, Stamp};
+use crate::{DecodeFault, ResponseTypes};
+use hb_time::Stamp;
 use hb_wire::{Field, NoMemory, Seq, Text};
 use std::alloc::Global;
 

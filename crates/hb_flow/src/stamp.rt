@@ -1,4 +1,4 @@
-//! The moment of an event: `google.protobuf.Timestamp` (`google/protobuf/timestamp.proto`).
+//! A stamp as a message, the moment of an event: `google.protobuf.Timestamp` (`google/protobuf/timestamp.proto`).
 ghost use Rattle.hb_flow.specs.Faults.{stamp_check};
 ghost use Rattle.hb_flow.specs.Messages.{stamp_bytes};
 ghost use Rattle.hb_flow.specs.Steps.{stamp_after};
@@ -7,15 +7,9 @@ use crate::DecodeFault;
 use crate::message::Message;
 use crate::numbers::{int32, int64, of_signed};
 use crate::writing::put_number;
+use hb_time::Stamp;
 use hb_wire::{Field, NoMemory};
 use std::alloc::Global;
-
-/// A moment as whole seconds since 1970-01-01T00:00:00Z and nanoseconds, ordered by seconds first.
-#[derive(Clone, Copy, Debug, PartialEq, Eq, PartialOrd, Ord)]
-pub struct Stamp {
-    pub secs: i64,
-    pub nanos: i32,
-}
 
 impl Message for Stamp {
     ghost check = { stamp_check };

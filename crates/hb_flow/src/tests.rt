@@ -3,6 +3,7 @@
 mod events;
 
 use super::*;
+use hb_time::Stamp;
 use hb_wire::{Seq, Text};
 use std::alloc::Global;
 use std::process::Abort;

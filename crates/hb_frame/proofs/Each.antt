@@ -3,7 +3,7 @@ use Rattle.std.proofs.Common.{◌≡◌, inl, inr, ℕ, zero, suc, ◌+◌, ◌<
 use Rattle.std.specs.List.{flat_map, AllByRecursion}
 use Rattle.std.proofs.lemmas.List.{append-nil, drop_at, get_or-drop}
 use Rattle.hb_frame.specs.Frames.{Frame, IsFrame, frame_bytes}
-use Rattle.hb_frame.specs.Cut.{StartsFrame, StartsNoFrame, IsCut}
+use Rattle.hb_frame.specs.Cut.{StartsFrame, StartsNoFrame, StartsFrames, IsCut}
 use Rattle.hb_frame.proofs.Cuts.{frame_once, frames_after, nothing_starts}
 use Rattle.hb_frame.proofs.Begins.{AreBytes, begun_or_stopped, stopped_starts_none}
 
@@ -53,7 +53,8 @@ first_frames (f ∷ fs) (g ∷ gs) x y p q e none =
     let others = first_frames fs gs x y p.1 q.1 first.1 none in
     (others.0, ap (λ (h : Frame). h ∷ gs) (sym first.0) ∙ ap (λ (hs : List Frame). f ∷ hs) others.1)
 
-pub cut_grows : (bytes more : List ℕ) (fs gs : List Frame) (x y : List ℕ) → IsCut bytes fs x → IsCut (bytes ++ more) gs y → (others : List Frame) × (gs ≡ fs ++ others)
-cut_grows bytes more fs gs x y p q =
-    first_frames fs gs (x ++ more) y p.starts.fit q.starts.fit
-    (sym (append_assoc (flat_map frame_bytes fs) x more) ∙ ap (λ (bs : List ℕ). bs ++ more) (sym p.starts.whole) ∙ q.starts.whole) q.longest
+pub cut_begins : (bytes more : List ℕ) (fs gs : List Frame) (x y : List ℕ) → StartsFrames bytes fs x → IsCut (bytes ++ more) gs y
+    → (others : List Frame) × (gs ≡ fs ++ others)
+cut_begins bytes more fs gs x y p q =
+    first_frames fs gs (x ++ more) y p.fit q.starts.fit
+    (sym (append_assoc (flat_map frame_bytes fs) x more) ∙ ap (λ (bs : List ℕ). bs ++ more) (sym p.whole) ∙ q.starts.whole) q.longest

@@ -1,12 +1,12 @@
 -- What a reader holds once it gave a frame, and that it gives those of the cut.
-use Rattle.std.proofs.Common.{◌≡◌, ℕ, ◌-◌, ◌+◌, List, [], ◌∷◌, ◌++◌, length, take, drop, sym, ap, ◌∙◌, arith, length-append}
+use Rattle.std.proofs.Common.{◌≡◌, ℕ, ◌-◌, ◌+◌, List, [], ◌∷◌, ◌++◌, length, take, drop, sym, ap, subst, ◌∙◌, arith, length-append}
 use Rattle.std.specs.List.{flat_map}
 use Rattle.std.proofs.Math.Seq.{take-append_seam, drop-append_seam}
 use Rattle.std.proofs.lemmas.List.{append-nil, drop-drop, drop-take}
 use Rattle.std.proofs.lemmas.List.Concat.{flat_map-append}
 use Rattle.hb_frame.specs.Frames.{Frame, frame_bytes}
-use Rattle.hb_frame.specs.Cut.{StartsFrame, StartsNoFrame, IsCut}
-use Rattle.hb_frame.specs.Reader.{Reader, HasRead, place_of}
+use Rattle.hb_frame.specs.Cut.{StartsFrame, StartsFrames, StartsNoFrame, IsCut}
+use Rattle.hb_frame.specs.Reader.{Reader, HasRead, HasStayed, place_of}
 use Rattle.hb_frame.proofs.Cuts.{frames_with}
 
 -- the body that ends where the bytes that were given do
@@ -51,7 +51,8 @@ has_read_more old new fed given f read next place =
     }
 
 -- no whole frame is held
-pub has_cut : (old new : Reader) (fed : List ℕ) (given : List Frame) → HasRead old fed given → new ≡ record old { body = [] } → StartsNoFrame old.held
+pub has_cut : (old new : Reader) (fed : List ℕ) (given : List Frame) → HasRead old fed given → HasStayed old new → StartsNoFrame old.held
     → HasRead new fed given × IsCut fed given new.held
 has_cut old new fed given read same none =
-    rw same (record { starts = read.starts; place = read.place }, record { starts = read.starts; longest = none })
+    let starts : StartsFrames fed given new.held = subst (StartsFrames fed given) (sym same.held) read.starts in
+    (record { starts = starts; place = same.place ∙ read.place }, record { starts = starts; longest = subst StartsNoFrame (sym same.held) none })

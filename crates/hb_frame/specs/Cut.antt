@@ -25,7 +25,7 @@ pub record IsCut (bytes : List ℕ) (frames : List Frame) (rest : List ℕ) : Ty
 
 -- ---- why no whole frame begins bytes
 
--- the bytes are the front of a frame, and more of it has to come; no bytes are the front of any
+-- the bytes are the front of a frame, and more of it has to come; the empty list is the front of each
 pub record IsCutShort (bytes : List ℕ) : Type 0 where
   pub of : Frame
   pub fits : IsFrame of

@@ -1,5 +1,5 @@
 -- Frames.
-use Rattle.std.specs.Prelude.{ℕ, ◌≤◌, List, ◌∷◌, ◌++◌, length, Option, Some, None, ◌==◌, if◌then◌else◌}
+use Rattle.std.specs.Prelude.{ℕ, ◌+◌, ◌≤◌, List, ◌∷◌, ◌++◌, length, Option, Some, None, ◌==◌, if◌then◌else◌}
 use Rattle.std.specs.Int.{w32, to_be_bytes}
 use Rattle.std.specs.List.{filter_map}
 
@@ -14,6 +14,10 @@ longest_body = 65536
 -- a frame's bytes: its kind, the length of its body in four bytes, the highest first, and its body
 abbrev pub frame : ℕ → List ℕ → List ℕ
 frame kind body = kind ∷ to_be_bytes w32 (length body) ++ body
+
+-- the most bytes of a frame
+abbrev pub longest_frame : ℕ
+longest_frame = 5 + longest_body
 
 -- a frame, apart from where its bytes stand
 pub record Frame : Type 0 where

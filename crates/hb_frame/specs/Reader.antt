@@ -15,12 +15,13 @@ Begins bytes fronts.NeedMore = IsUnfinished bytes
 Begins bytes (fronts.BadKind kind) = HasBadKind bytes kind
 Begins bytes (fronts.TooLong size) = HasLongBody bytes size
 
--- The bytes that a reader was fed and has not given, their place in all bytes fed, and the body of the
--- frame that it gave last.
+-- The bytes that a reader was fed and has not given, their place in all bytes fed, the body of the frame
+-- that it gave last, and how many bytes that it gave it still stores.
 pub record Reader : Type 0 where
   pub held : List ℕ
   pub place : ℕ
   pub body : List ℕ
+  pub kept : ℕ
 
 -- a place is told up to 2^64 - 1
 abbrev pub place_of : ℕ → ℕ
@@ -40,13 +41,19 @@ Answers reader NeedMore = IsUnfinished reader.held
 Answers reader (BadKind at kind) = (at ≡ reader.place) × HasBadKind reader.held kind
 Answers reader (TooLong at size) = (at ≡ reader.place) × HasLongBody reader.held size
 
+-- it holds the same bytes, at the same place, and has no body
+pub record HasStayed (old new : Reader) : Type 0 where
+  pub held : new.held ≡ old.held
+  pub place : new.place ≡ old.place
+  pub body : new.body ≡ []
+
 -- how it goes on once it has answered: the frame that began what it held is given, or nothing is
 abbrev pub GoesOn : Reader → Reader → Next → Type 0
 GoesOn old new (Frame kind at size) = StartsFrame old.held (record { kind = kind; body = new.body }) new.held
     × (size ≡ length new.body) × (new.place ≡ place_of (old.place + length (frame kind new.body)))
-GoesOn old new NeedMore = new ≡ record old { body = [] }
-GoesOn old new (BadKind at kind) = new ≡ record old { body = [] }
-GoesOn old new (TooLong at size) = new ≡ record old { body = [] }
+GoesOn old new NeedMore = HasStayed old new
+GoesOn old new (BadKind at kind) = HasStayed old new
+GoesOn old new (TooLong at size) = HasStayed old new
 
 -- the same of all bytes fed: it gave one frame more, or the frames given are those of their cut
 abbrev pub HasGiven : Reader → List ℕ → List WholeFrame → Next → Type 0

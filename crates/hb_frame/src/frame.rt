@@ -13,6 +13,9 @@ pub const STATUS: u8 = 2;
 /// The greatest kind of a frame, that of one which cancels a call. Kind 1 begins one.
 pub const CANCEL: u8 = 3;
 
+/// The length of what stands before a frame's body, in bytes: its kind and the body's length.
+pub(crate) const HEAD: usize = 5;
+
 /// The greatest length of a frame's body, in bytes.
 pub const BODY: usize = 65_536;
 

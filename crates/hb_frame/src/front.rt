@@ -32,13 +32,14 @@ pub fn front_of(bytes: &[u8]) -> Front<'_>
         [kind, ..] if *kind > CANCEL => Front::BadKind { kind: *kind },
         [kind, a, b, c, d, rest @ ..] => {
             let length = u32::from_be_bytes([*a, *b, *c, *d]);
-            if length as usize > BODY {
+            let size = length as usize;
+            if size > BODY {
                 return Front::TooLong { length };
             }
-            if length as usize > rest.len() {
+            if size > rest.len() {
                 return Front::NeedMore;
             }
-            let (body, after) = rest.split_at(length as usize);
+            let (body, after) = rest.split_at(size);
             Front::Frame {
                 kind: *kind,
                 body,

@@ -2,16 +2,17 @@
 ghost use Rattle.std.specs.Prelude.{◌≡◌, ℕ, ◌<◌, List, [], ◌++◌, slice_index};
 ghost use Rattle.std.specs.List.{flat_map, AllByRecursion};
 ghost use Rattle.hb_frame.specs.Frames.{Frame, IsFrame, frame_bytes};
-ghost use Rattle.hb_frame.specs.Cut.{StartsNoFrame, IsCut, IsUnfinished, HasBadKind, HasLongBody, IsStopped};
+ghost use Rattle.hb_frame.specs.Cut.{StartsNoFrame, StartsFrames, IsCut, IsUnfinished, HasBadKind, HasLongBody, IsStopped};
 
-/// Bytes are cut into frames in one way, and only one. Further bytes only add frames, and whole
-/// frames that were put one after another are cut into themselves.
+/// Bytes are cut into frames in one way, and only one. Frames that begin some bytes are the first
+/// ones of these bytes' cut, whatever comes behind them; and whole frames that were put one after
+/// another are cut into themselves.
 pub fn one_cut()
     ensures each { (bytes : List ℕ) → ((i : ℕ) → slice_index bytes i < 256)
         → (frames : List Frame) × (rest : List ℕ) × IsCut bytes frames rest }
     ensures one { (bytes x y : List ℕ) (fs gs : List Frame) → IsCut bytes fs x → IsCut bytes gs y
         → (fs ≡ gs) × (x ≡ y) }
-    ensures grows { (bytes more x y : List ℕ) (fs gs : List Frame) → IsCut bytes fs x
+    ensures first { (bytes more x y : List ℕ) (fs gs : List Frame) → StartsFrames bytes fs x
         → IsCut (bytes ++ more) gs y → (others : List Frame) × (gs ≡ fs ++ others) }
     ensures put { (frames : List Frame) → AllByRecursion IsFrame frames
         → IsCut (flat_map frame_bytes frames) frames [] }

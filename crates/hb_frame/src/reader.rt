@@ -1,9 +1,10 @@
 //! Frames out of bytes that come in pieces.
-ghost use Rattle.std.specs.Prelude.{◌≡◌, ◌↔◌, ℕ, List, [], ◌+◌, ◌≤◌, ◌++◌, length, take, drop, IsTrue, IsOk, IfOk, OnOk, OnErr};
-ghost use Rattle.hb_frame.specs.Frames.{Frame};
-ghost use Rattle.hb_frame.specs.Reader.{HasRead, Answers, GoesOn, HasGiven, place_of};
+ghost use Rattle.std.specs.Prelude.{◌≡◌, ◌↔◌, ℕ, List, [], ◌+◌, ◌*◌, ◌≤◌, ◌++◌, length, take, drop, IsTrue, IsOk, IfOk, OnOk, OnErr};
+ghost use Rattle.hb_frame.specs.Frames.{Frame, longest_body, longest_frame};
+ghost use Rattle.hb_frame.specs.Reader.{HasRead, Answers, HasStayed, GoesOn, HasGiven, place_of};
 
 use crate::NoMemory;
+use crate::frame::HEAD;
 use crate::front::{Front, front_of};
 use std::alloc::Global;
 use std::marker::Model;
@@ -25,7 +26,8 @@ pub enum Next {
 }
 
 /// Cuts bytes into frames, whatever the pieces that they come in. What it gave is let go: it stores
-/// at most twice the bytes that it was fed and has not given, and twice the longest frame.
+/// at most twice the bytes that it was fed and has not given, and twice the longest frame. The room
+/// that it took for more stays.
 #[derive(Drop)]
 pub struct FrameReader {
     bytes: Vec<u8>,
@@ -35,7 +37,8 @@ pub struct FrameReader {
 }
 
 impl Model for FrameReader {
-    ghost use Rattle.std.specs.Prelude.{◌≤◌, ◌-◌, length, take, drop};
+    ghost use Rattle.std.specs.Prelude.{◌≤◌, ◌+◌, ◌-◌, ◌*◌, length, take, drop};
+    ghost use Rattle.hb_frame.specs.Frames.{longest_frame};
     ghost use Rattle.hb_frame.specs.Reader.{Reader};
 
     ghost Value = { Reader };
@@ -44,9 +47,11 @@ impl Model for FrameReader {
       held = drop r.given r.bytes.items;
       place = r.place;
       body = drop (r.given - r.body) (take r.given r.bytes.items);
+      kept = r.given;
     } };
 
-    ghost invariant = { λ r. (r.body ≤ r.given) × (r.given ≤ length r.bytes.items) };
+    ghost invariant = { λ r. (r.body ≤ r.given) × (r.given ≤ length r.bytes.items)
+        × (r.given ≤ length r.bytes.items - r.given + 2 * longest_frame) };
 }
 
 impl FrameReader {
@@ -54,7 +59,8 @@ impl FrameReader {
     pub fn new(alloc: Global) -> Result<FrameReader, NoMemory>
         ensures ok { IsOk result }
         ensures reads { IfOk result (λ reader. HasRead reader [] []) }
-        ensures body { IfOk result (λ reader. reader.body ≡ []) }
+        ensures fresh { IfOk result
+            (λ reader. reader ≡ record { held = []; place = 0; body = []; kept = 0 }) }
     {
         Ok(FrameReader {
             bytes: Vec::new(alloc),
@@ -64,8 +70,8 @@ impl FrameReader {
         })
     }
 
-    /// Takes the next piece of the bytes, of any length. It is copied once. At `Err` the reader is as
-    /// before.
+    /// Takes the next piece of the bytes, of any length. It is copied once, and again as room grows.
+    /// At `Err` the reader is as before. What is fed behind a fault is kept too: feed no more then.
     pub fn feed(&mut self, piece: &[u8]) -> Result<(), NoMemory>
         ensures ok { OnOk result
             (self.new ≡ record self.old { held = self.old.held ++ piece.now }) }
@@ -83,6 +89,7 @@ impl FrameReader {
     pub fn next(&mut self) -> Next
         ensures exact { (next : Next) → (result ≡ next) ↔ Answers self.old next }
         ensures goes_on { GoesOn self.old self.new result }
+        ensures lets_go { self.new.kept ≤ length self.new.held + 2 * longest_frame }
         ensures reads { (fed : List ℕ) (given : List Frame) → HasRead self.old fed given
             → HasGiven self.new fed given result }
     {
@@ -121,9 +128,10 @@ impl FrameReader {
         &self.bytes[self.given..]
     }
 
-    /// Drops the bytes that it gave, once they are no fewer than those that it holds.
+    /// Drops the last body, and the bytes that it gave once they are no fewer than those that it holds.
     fn let_go(&mut self)
-        ensures { self.new ≡ record self.old { body = [] } }
+        ensures stayed { HasStayed self.old self.new }
+        ensures kept { self.new.kept ≤ length self.new.held }
     {
         let held = self.held().len();
         if self.given >= held {
@@ -137,14 +145,18 @@ impl FrameReader {
     /// Gives the frame that begins what it holds, whose body has this length.
     fn give(&mut self, body: u32)
         requires whole { 5 + body ≤ length self.old.held }
+        requires short { body ≤ longest_body }
+        requires kept { self.old.kept ≤ length self.old.held }
         ensures { self.new ≡ record {
           held = drop (5 + body) self.old.held;
           place = place_of (self.old.place + (5 + body));
           body = take body (drop 5 self.old.held);
+          kept = self.old.kept + (5 + body);
         } }
     {
+        let size = HEAD + body as usize;
+        self.given += size;
         self.body = body as usize;
-        self.given += 5 + self.body;
-        self.place = self.place.saturating_add(5 + u64::from(body));
+        self.place = self.place.saturating_add(size as u64);
     }
 }

@@ -1,7 +1,8 @@
 -- The events that a session reads, which of them it gives, and those that it makes of what was lost.
-use Rattle.std.specs.Prelude.{ℕ, ◌/◌, ◌%◌, ◌^◌, pos, Bool, true, false, ◌&&◌, ◌||◌, List, [], Option, Some, None, unwrap_or, int_lt, int_le}
+use Rattle.std.specs.Prelude.{ℕ, pos, Bool, true, false, ◌&&◌, ◌||◌, List, [], Option, Some, None, unwrap_or, int_lt, int_le}
 use Rattle.std.specs.Option.{option_map_or}
-use Rattle.hb_flow.specs.declared.stamp.Stamp.{Stamp}
+use Rattle.hb_time.specs.declared.stamp.Stamp.{Stamp}
+use Rattle.hb_time.specs.Stamps.{stamp_of}
 use Rattle.hb_flow.specs.declared.fault.DecodeFault.{DecodeFault}
 use Rattle.hb_flow.specs.declared.event.Event.{Event}
 use Rattle.hb_flow.specs.declared.event.Event.TheVariants as events
@@ -39,10 +40,6 @@ passes selection (events.Lost lost) = true
 abbrev pub is_flow : Event → Bool
 is_flow (events.Flow flow) = true
 is_flow (events.Lost lost) = false
-
--- a moment in nanoseconds as a stamp
-abbrev pub stamp_of : ℕ → Stamp
-stamp_of moment = record { secs = pos (moment / 10 ^ 9); nanos = pos (moment % 10 ^ 9) }
 
 -- the source of lost events that a node's ring lost
 abbrev pub hubble_ring_buffer : ℕ

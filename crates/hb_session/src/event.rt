@@ -1,16 +1,15 @@
 //! The events that a session reads, which of them it gives, and those that it makes.
 ghost use Rattle.std.specs.Prelude.{◌≡◌, IfOk};
-ghost use Rattle.hb_session.specs.Events.{event_of_record, lost_event, not_after, is_within, passes, is_flow, stamp_of};
+ghost use Rattle.hb_session.specs.Events.{event_of_record, lost_event, not_after, is_within, passes, is_flow};
 
 use crate::{Loss, Selection};
-use hb_flow::{DecodeFault, Event, Lost, LostEvent, Stamp, event_of};
+use hb_flow::{DecodeFault, Event, Lost, LostEvent, event_of};
+use hb_time::{Stamp, of_moment};
 use hb_wire::{NoMemory, Seq};
 use std::alloc::Global;
 
 /// Cilium's `LostEventSource.HUBBLE_RING_BUFFER` (`flow/flow.proto`).
 const HUBBLE_RING_BUFFER: i32 = 3;
-
-const NANOS_PER_SECOND: u64 = 1_000_000_000;
 
 /// The event whose record these bytes are. There is none where they have a fault, or hold none.
 pub(crate) fn read_event(alloc: Global, bytes: &[u8]) -> Result<Option<Event>, NoMemory>
@@ -35,18 +34,8 @@ pub(crate) fn lost_event(alloc: Global, loss: Loss) -> Result<Event, NoMemory>
             cpu: None,
             unknown: Seq::new(alloc)?,
         },
-        time: Some(stamp_of(loss.moment)),
+        time: Some(of_moment(loss.moment)),
     }))
-}
-
-/// A moment in nanoseconds as a stamp.
-fn stamp_of(moment: u64) -> Stamp
-    ensures { result ≡ stamp_of moment }
-{
-    Stamp {
-        secs: (moment / NANOS_PER_SECOND) as i64,
-        nanos: (moment % NANOS_PER_SECOND) as i32,
-    }
 }
 
 /// Whether a stamp is not after another.

@@ -2,7 +2,7 @@
 ghost use Rattle.std.specs.Prelude.{◌≡◌};
 ghost use Rattle.hb_session.specs.Replies.{is_backward};
 
-use hb_flow::Stamp;
+use hb_time::Stamp;
 
 /// Which events of its window a client asks for.
 #[derive(Clone, Copy, Debug, PartialEq, Eq)]

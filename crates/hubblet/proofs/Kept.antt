@@ -6,7 +6,7 @@ use Rattle.std.proofs.lemmas.Bool.{le-leb, lt-leb}
 use Rattle.hb_wire.specs.Varint.{varint, varint_of}
 use Rattle.hb_wire.specs.Field.{spelled, spelling}
 use Rattle.hb_flow.specs.Messages.{number_field, message_field, of_signed, stamp_bytes, lost_event_bytes, response_bytes, record_bytes, event_time, oversized}
-use Rattle.hb_flow.specs.declared.stamp.Stamp.{Stamp}
+use Rattle.hb_time.specs.declared.stamp.Stamp.{Stamp}
 use Rattle.hb_flow.specs.declared.lost_event.LostEvent.{LostEvent}
 use Rattle.hb_flow.specs.declared.event.Event.{Event}
 use Rattle.hb_session.proofs.Bools.{when_true, when_false}

@@ -202,17 +202,3 @@ fn places_stop_at_the_end_of_their_type(rt: HostRuntime) -> Result<(), Fail> {
     assert_eq!(rt; reader.next(), want);
     Ok(())
 }
-
-/// A reader that always holds a part of a frame stores no more than a few frames.
-#[test]
-fn what_was_given_is_let_go(rt: HostRuntime) -> Result<(), Fail> {
-    let mut reader = FrameReader::new(rt.alloc())?;
-    reader.feed(b"\x00\x00\x00")?;
-    for _ in 0..1_000 {
-        reader.feed(b"\x00\x03abc\x00\x00\x00")?;
-        let next = reader.next();
-        assert!(rt; next != Next::NeedMore);
-        assert!(rt; reader.bytes.len() < 40);
-    }
-    Ok(())
-}

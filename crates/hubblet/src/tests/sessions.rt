@@ -5,10 +5,11 @@ ghost use Rattle.hb_listring.specs.Places.{HasSeenAtMost};
 
 use hb_api::GetFlowsRequest;
 use hb_edge::{Link, MemLink};
-use hb_flow::{Event, Int32Value, Lost, LostEvent, Stamp, record_of};
+use hb_flow::{Event, Int32Value, Lost, LostEvent, record_of};
 use hb_listring::{ListEye, ListReader, ListRing};
 use hb_look::{Keep, Look, Put};
 use hb_session::{Counts, NodeSession, Turn, finish};
+use hb_time::Stamp;
 use hb_wire::{Seq, Text};
 use std::alloc::Global;
 use std::process::Abort;

@@ -4,8 +4,8 @@ use Rattle.hb_frame.specs.Cut.{HasLongBody}
 use Rattle.hb_frame.proofs.front.front_of.Goals.{in_default-via-then-bytes-lt1, in_default-via-in-len1-up+else-kind-gt-CANCEL+then-bytes-lt5}
 use Rattle.hb_frame.proofs.front.front_of.Goals as goal
 
-pub returns-then-length-gt-BODY : goal.returns-then-length-gt-BODY
-returns-then-length-gt-BODY c =
+pub returns-then-size-gt-BODY : goal.returns-then-size-gt-BODY
+returns-then-size-gt-BODY c =
     let bytes = c.args.bytes.now in
     let known : get_or bytes 0 0 ≤ 3 = search rules in
     let size : c.from_be_bytes-length.result ≡ length_in bytes = search rules in
@@ -16,8 +16,8 @@ returns-then-length-gt-BODY c =
           (has_long_body bytes (λ i. (c.type_inv.bytes i).fits) c.in-len5-up.len_at_least known (omega (arith, over, size)) (omega (arith, small, size)));
     }
 
-pub returns-then-length-rest : goal.returns-then-length-rest
-returns-then-length-rest c =
+pub returns-then-size-rest : goal.returns-then-size-rest
+returns-then-size-rest c =
     let bytes = c.args.bytes.now in
     let known : get_or bytes 0 0 ≤ 3 = search rules in
     let size : c.from_be_bytes-length.result ≡ length_in bytes = search rules in

@@ -1,8 +1,7 @@
-use Rattle.std.proofs.Common.{◌≡◌, ◌<◌, ◌∙◌, length, refl, sym, ap, subst, arith, rules}
+use Rattle.std.proofs.Common.{◌≡◌, ◌<◌, ◌∙◌, length, refl, arith, rules}
 use Rattle.std.proofs.lemmas.Result.{err_from_is_err_and}
-use Rattle.hb_listring.specs.Log.{Kept}
 use Rattle.hubblet.specs.Ingest.{TakesMessage}
-use Rattle.hubblet.proofs.Ingested.{HasIngested, ingested_none, ingested_other, ingested_message, bad_rest, untaken_message, written_with, frame_size, starts_message}
+use Rattle.hubblet.proofs.Ingested.{ingested_none, ingested_other, ingested_message, bad_rest, untaken_message, written_with, frame_size, starts_message}
 use Rattle.hb_frame.proofs.Begins.{no_frame_begins}
 use Rattle.hubblet.proofs.recording.ingest.Goals as goal
 

@@ -1,0 +1,10 @@
+pub mod CalendarLemmas
+pub mod DigitLemmas
+pub mod OffsetLemmas
+pub mod EndLemmas
+pub mod ReadingLemmas
+pub mod WritingLemmas
+pub mod BackLemmas
+pub mod StampLemmas
+pub mod SpanLemmas
+pub mod Exact
