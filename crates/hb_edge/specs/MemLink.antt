@@ -7,7 +7,7 @@ use Rattle.hb_edge.specs.Plan.{one_more, is_planned}
 
 -- the bytes written to it, those that wait to be read, whether its far side has ended, whether it is held, the most that one
 -- call moves, the numbers of the calls to fail, how many calls there were, how many failed, how many reads and writes had to
--- wait, whether memory was refused, and its key
+-- wait, in how many memory was refused, and its key
 pub record LinkState : Type 0 where
   pub taken : List ℕ
   pub unread : List ℕ
@@ -19,7 +19,7 @@ pub record LinkState : Type 0 where
   pub faults : ℕ
   pub read_waits : ℕ
   pub write_waits : ℕ
-  pub starved : Bool
+  pub refusals : ℕ
   pub key : ℕ
 
 -- a read of these bytes: as many as wait and are allowed, and with none the end, where it is there

@@ -1,5 +1,5 @@
 //! A two-way connection to a far side.
-ghost use Rattle.std.specs.Prelude.{◌≡◌, ◌<◌, ◌≤◌, length, Some, false};
+ghost use Rattle.std.specs.Prelude.{◌≡◌, ◌⊎◌, ◌<◌, ◌≤◌, length, Some};
 ghost use Rattle.std.specs.Option.{ForSome};
 ghost use Rattle.hb_edge.specs.Causes.{Rose};
 ghost use Rattle.hb_edge.specs.Link.{ReadWithin, ReadsHeld, WrittenWithin, written};
@@ -19,7 +19,7 @@ pub enum Moved {
 
 /// A connection that is read and written without waiting.
 pub trait Link {
-    ghost use Rattle.std.specs.Prelude.{ℕ, List, Option, Bool};
+    ghost use Rattle.std.specs.Prelude.{ℕ, List, Option};
     ghost use Rattle.hb_edge.specs.declared.link.Moved.{Moved};
     ghost use Rattle.hb_edge.specs.Link.{Held};
 
@@ -38,8 +38,8 @@ pub trait Link {
     /// The number that it is told apart by. No call changes it.
     ghost key: { Self → ℕ };
 
-    /// Whether memory was ever refused to it.
-    ghost starved: { Self → Bool };
+    /// In how many of its calls memory was refused. The count stops at 2^64 - 1.
+    ghost refusals: { Self → ℕ };
 
     /// What a read answers: by the buffer's length.
     ghost read_answer: { Self → ℕ → Moved };
@@ -53,8 +53,10 @@ pub trait Link {
     /// The link after that write.
     ghost write_after: { Self → List ℕ → Self };
 
-    /// The loan that it holds, if any. No call changes it.
-    ghost lender: { Self → ℕ };
+    /// What no call changes: the loans that it holds, if any.
+    ghost Fixed: { Type 0 };
+
+    ghost fixed: { Self → Self.Fixed };
 
     /// Reads bytes that wait, at least one, to the front of `buf`.
     fn poll_read(&mut self, buf: &mut [u8]) -> Moved
@@ -69,13 +71,12 @@ pub trait Link {
             → Rose (read_waits self.old) (read_waits self.new) }
         ensures told { ForSome (held self.old)
             (λ h. ReadsHeld h result buf.new (held self.new)) }
-        ensures answers { ForSome (held self.old)
-            (λ _. result ≡ read_answer self.old (length buf.old)) }
-        ensures leaves { ForSome (held self.old)
-            (λ _. self.new ≡ read_after self.old (length buf.old)) }
-        ensures fed { starved self.new ≡ starved self.old }
+        ensures exact { ForSome (held self.old)
+            (λ _. (result ≡ read_answer self.old (length buf.old))
+            × (self.new ≡ read_after self.old (length buf.old))) }
+        ensures kept { refusals self.new ≡ refusals self.old }
         ensures key { key self.new ≡ key self.old }
-        ensures lent { lender self.new ≡ lender self.old };
+        ensures fixed { fixed self.new ≡ fixed self.old };
 
     /// Takes bytes from the front of the piece, at least one.
     fn poll_write(&mut self, piece: &[u8]) -> Moved
@@ -83,19 +84,19 @@ pub trait Link {
         ensures within { WrittenWithin result (length piece.now) }
         ensures later { (faults self.old ≤ faults self.new)
             × (read_waits self.old ≤ read_waits self.new)
-            × (write_waits self.old ≤ write_waits self.new) }
+            × (write_waits self.old ≤ write_waits self.new)
+            × (refusals self.old ≤ refusals self.new) }
         ensures cause { result ≡ Moved.Failed → Rose (faults self.old) (faults self.new) }
         ensures waits { result ≡ Moved.NotYet
             → Rose (write_waits self.old) (write_waits self.new) }
         ensures told { ForSome (held self.old)
             (λ h. held self.new ≡ Some (record h { taken = written h.taken piece.now result })) }
-        ensures answers { ForSome (held self.old)
-            (λ _. starved self.new ≡ false → result ≡ write_answer self.old piece.now) }
-        ensures leaves { ForSome (held self.old)
-            (λ _. starved self.new ≡ false → self.new ≡ write_after self.old piece.now) }
-        ensures fed { starved self.new ≡ false → starved self.old ≡ false }
+        ensures exact { ForSome (held self.old) (λ _.
+            ((result ≡ write_answer self.old piece.now)
+            × (self.new ≡ write_after self.old piece.now))
+            ⊎ ((result ≡ Moved.Failed) × Rose (refusals self.old) (refusals self.new))) }
         ensures key { key self.new ≡ key self.old }
-        ensures lent { lender self.new ≡ lender self.old };
+        ensures fixed { fixed self.new ≡ fixed self.old };
 
     /// How many calls failed.
     fn faults(&self) -> u64

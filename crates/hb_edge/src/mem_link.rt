@@ -1,5 +1,5 @@
 //! A link in memory, whose calls fail as planned.
-ghost use Rattle.std.specs.Prelude.{◌≡◌, ◌≤◌, ◌<◌, ◌-◌, ◌^◌, ◌++◌, [], length, take, drop, min, IfOk, IsOk, OnOk, OnErr, Some, true, false};
+ghost use Rattle.std.specs.Prelude.{◌≡◌, ◌↔◌, ◌≤◌, ◌<◌, ◌-◌, ◌^◌, ◌++◌, [], length, take, drop, min, IfOk, IsOk, OnOk, OnErr, Some, true, false};
 ghost use Rattle.hb_edge.specs.Link.{ReadWithin};
 ghost use Rattle.hb_edge.specs.MemLink.{ReadsFront, front_answer, read_answer, read_after, write_answer, write_after};
 
@@ -22,7 +22,7 @@ pub struct MemLink {
     faults: u64,
     read_waits: u64,
     write_waits: u64,
-    starved: bool,
+    refusals: u64,
     key: u64,
 }
 
@@ -43,7 +43,7 @@ impl Model for MemLink {
       faults = s.faults;
       read_waits = s.read_waits;
       write_waits = s.write_waits;
-      starved = s.starved;
+      refusals = s.refusals;
       key = s.key;
     } };
 
@@ -67,7 +67,7 @@ impl MemLink {
               faults = 0;
               read_waits = 0;
               write_waits = 0;
-              starved = false;
+              refusals = 0;
               key = key;
             }) }
     {
@@ -84,7 +84,7 @@ impl MemLink {
             faults: 0,
             read_waits: 0,
             write_waits: 0,
-            starved: false,
+            refusals: 0,
             key,
         })
     }
@@ -140,9 +140,9 @@ impl MemLink {
 
     /// Whether memory was ever refused to it.
     pub fn starved(&self) -> bool
-        ensures value { result ≡ self.now.starved }
+        ensures value { (result ≡ true) ↔ (0 < self.now.refusals) }
     {
-        self.starved
+        0 < self.refusals
     }
 
     // The bytes that were read wait no longer. The place moves on, so that what is left behind it
@@ -160,6 +160,8 @@ impl MemLink {
 }
 
 impl Link for MemLink {
+    ghost use Rattle.std.specs.Prelude.{ℕ, List};
+
     ghost held = { λ s. Some (record { taken = s.taken; unread = s.unread; ended = s.ended }) };
 
     ghost faults = { λ s. s.faults };
@@ -170,7 +172,7 @@ impl Link for MemLink {
 
     ghost key = { λ s. s.key };
 
-    ghost starved = { λ s. s.starved };
+    ghost refusals = { λ s. s.refusals };
 
     ghost read_answer = { read_answer };
 
@@ -180,7 +182,9 @@ impl Link for MemLink {
 
     ghost write_after = { write_after };
 
-    ghost lender = { λ _. 0 };
+    ghost Fixed = { ℕ × List ℕ };
+
+    ghost fixed = { λ s. (s.most, s.fails) };
 
     fn poll_read(&mut self, buf: &mut [u8]) -> Moved {
         self.calls = self.calls.saturating_add(1);
@@ -210,7 +214,7 @@ impl Link for MemLink {
         let size = piece.len().min(self.most);
         if self.taken.extend_from_slice(&piece[..size]).is_err() {
             self.faults = self.faults.saturating_add(1);
-            self.starved = true;
+            self.refusals = self.refusals.saturating_add(1);
             return Moved::Failed;
         }
         Moved::Took(size)

@@ -80,7 +80,9 @@ impl Shelf for MemShelf {
 
     ghost after = { shelf_after };
 
-    ghost lender = { λ _. 0 };
+    ghost Fixed = { Unit {0} };
+
+    ghost fixed = { λ _. tt };
 
     fn read(&mut self, name: &str, at: u64, buf: &mut [u8]) -> Shelved {
         self.calls = self.calls.saturating_add(1);

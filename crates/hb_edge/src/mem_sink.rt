@@ -1,5 +1,5 @@
 //! A sink in memory, whose calls fail as planned.
-ghost use Rattle.std.specs.Prelude.{◌≡◌, ◌≤◌, ◌-◌, ◌^◌, [], IfOk, IsOk, OnOk, OnErr, Some, false};
+ghost use Rattle.std.specs.Prelude.{◌≡◌, ◌↔◌, ◌<◌, ◌≤◌, ◌-◌, ◌^◌, [], IfOk, IsOk, OnOk, OnErr, Some, true};
 ghost use Rattle.hb_edge.specs.MemSink.{sink_answer, sink_after};
 
 use crate::{NoMemory, Sink, Sunk};
@@ -15,7 +15,7 @@ pub struct MemSink {
     fails: Vec<u64>,
     calls: u64,
     faults: u64,
-    starved: bool,
+    refusals: u64,
 }
 
 impl Model for MemSink {
@@ -30,7 +30,7 @@ impl Model for MemSink {
       fails = s.fails.items;
       calls = s.calls;
       faults = s.faults;
-      starved = s.starved;
+      refusals = s.refusals;
     } };
 
     ghost invariant = { λ s. 1 ≤ s.most };
@@ -47,7 +47,7 @@ impl MemSink {
               fails = [];
               calls = 0;
               faults = 0;
-              starved = false;
+              refusals = 0;
             }) }
     {
         Ok(MemSink {
@@ -57,7 +57,7 @@ impl MemSink {
             fails: Vec::new(alloc),
             calls: 0,
             faults: 0,
-            starved: false,
+            refusals: 0,
         })
     }
 
@@ -87,24 +87,28 @@ impl MemSink {
 
     /// Whether memory was ever refused to it.
     pub fn starved(&self) -> bool
-        ensures value { result ≡ self.now.starved }
+        ensures value { (result ≡ true) ↔ (0 < self.now.refusals) }
     {
-        self.starved
+        0 < self.refusals
     }
 }
 
 impl Sink for MemSink {
+    ghost use Rattle.std.specs.Prelude.{ℕ, List};
+
     ghost held = { λ s. Some s.bytes };
 
     ghost faults = { λ s. s.faults };
 
-    ghost starved = { λ s. s.starved };
+    ghost refusals = { λ s. s.refusals };
 
     ghost answer = { sink_answer };
 
     ghost after = { sink_after };
 
-    ghost lender = { λ _. 0 };
+    ghost Fixed = { ℕ × List ℕ };
+
+    ghost fixed = { λ s. (s.most, s.fails) };
 
     fn write(&mut self, piece: &[u8]) -> Sunk {
         self.calls = self.calls.saturating_add(1);
@@ -115,7 +119,7 @@ impl Sink for MemSink {
         let size = piece.len().min(self.most);
         if self.bytes.extend_from_slice(&piece[..size]).is_err() {
             self.faults = self.faults.saturating_add(1);
-            self.starved = true;
+            self.refusals = self.refusals.saturating_add(1);
             return Sunk::Failed;
         }
         Sunk::Took(size)

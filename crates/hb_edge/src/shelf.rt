@@ -33,8 +33,10 @@ pub trait Shelf {
     /// The shelf after that read.
     ghost after: { Self → List ℕ → ℕ → ℕ → Self };
 
-    /// The loan that it holds, if any. No call changes it.
-    ghost lender: { Self → ℕ };
+    /// What no call changes: the loans that it holds, if any.
+    ghost Fixed: { Type 0 };
+
+    ghost fixed: { Self → Self.Fixed };
 
     /// Reads bytes of the file of this name, from the byte at `at` on, to the front of `buf`.
     fn read(&mut self, name: &str, at: u64, buf: &mut [u8]) -> Shelved
@@ -45,11 +47,10 @@ pub trait Shelf {
         ensures cause { result ≡ Shelved.Failed → Rose (faults self.old) (faults self.new) }
         ensures kept { files self.new ≡ files self.old }
         ensures told { ForSome (files self.old) (λ f. ReadsFile (f name.now) at result buf.new) }
-        ensures answers { ForSome (files self.old)
-            (λ _. result ≡ answer self.old name.now at (length buf.old)) }
-        ensures leaves { ForSome (files self.old)
-            (λ _. self.new ≡ after self.old name.now at (length buf.old)) }
-        ensures lent { lender self.new ≡ lender self.old };
+        ensures exact { ForSome (files self.old)
+            (λ _. (result ≡ answer self.old name.now at (length buf.old))
+            × (self.new ≡ after self.old name.now at (length buf.old))) }
+        ensures fixed { fixed self.new ≡ fixed self.old };
 
     /// How many calls failed.
     fn faults(&self) -> u64

@@ -1,5 +1,5 @@
 //! The standard output.
-ghost use Rattle.std.specs.Prelude.{◌≡◌, None, false};
+ghost use Rattle.std.specs.Prelude.{◌≡◌, None};
 
 use crate::{Sink, Sunk};
 use std::io;
@@ -38,13 +38,15 @@ impl<R: Print + Drop> Sink for StdoutSink<R> {
 
     ghost faults = { λ s. s };
 
-    ghost starved = { λ _. false };
+    ghost refusals = { λ _. 0 };
 
     ghost answer = { λ _ _. Failed };
 
     ghost after = { λ s _. s };
 
-    ghost lender = { λ _. 0 };
+    ghost Fixed = { Unit {0} };
+
+    ghost fixed = { λ _. tt };
 
     fn write(&mut self, piece: &[u8]) -> Sunk {
         match io::writer(&self.rt).write(piece) {

@@ -6,13 +6,11 @@
 #![tactic(auto)]
 
 mod eye;
-mod laws;
 mod reader;
 mod ring;
 #[cfg(test)]
 mod tests;
 
 pub use eye::ListEye;
-pub use laws::{window_is_held, window_of_map};
 pub use reader::ListReader;
 pub use ring::ListRing;

@@ -1,5 +1,6 @@
 //! `ListReader`: the looks that one reader made.
-ghost use Rattle.std.specs.Prelude.{◌≡◌, ◌^◌, ◌<◌, ◌≤◌, length, IfOk, IsOk, OnOk, OnErr};
+ghost use Rattle.std.specs.Prelude.{◌≡◌, ◌<◌, ◌≤◌, length, IfOk, IsOk, OnOk, OnErr};
+ghost use Rattle.hb_look.specs.Limits.{most_records};
 ghost use Rattle.hb_look.specs.Reader.{IsLater, fresh};
 ghost use Rattle.hb_listring.specs.Places.{HasSeenAtMost, after_load, after_look};
 ghost use Rattle.hb_listring.specs.Found.{found_in};
@@ -20,7 +21,8 @@ pub struct ListReader {
 }
 
 impl Model for ListReader {
-    ghost use Rattle.std.specs.Prelude.{◌^◌, ◌≤◌, length};
+    ghost use Rattle.std.specs.Prelude.{◌≤◌, length};
+    ghost use Rattle.hb_look.specs.Limits.{most_records};
     ghost use Rattle.hb_look.specs.Reader.{Reader};
 
     ghost Value = { Reader };
@@ -31,7 +33,7 @@ impl Model for ListReader {
       begun = record { count = r.seen; loads = r.loads };
     } };
 
-    ghost invariant = { λ r. length r.looks.items ≤ 2 ^ 62 };
+    ghost invariant = { λ r. length r.looks.items ≤ most_records };
 }
 
 impl ListReader {
@@ -49,7 +51,7 @@ impl ListReader {
 
     /// How many looks it made.
     pub(crate) fn looked(&self) -> u64
-        ensures { (result ≡ length self.now.looks) × (result ≤ 2 ^ 62) }
+        ensures { (result ≡ length self.now.looks) × (result ≤ most_records) }
     {
         self.looks.len() as u64
     }
@@ -72,7 +74,7 @@ impl ListReader {
         moment: u64,
         place: Place<'_>,
     ) -> Result<(), NoMemory>
-        requires unspent { length self.old.looks < 2 ^ 62 }
+        requires unspent { length self.old.looks < most_records }
         requires seen { HasSeenAtMost written self.old }
         ensures ok { OnOk result
             (self.new ≡ after_look self.old written position moment (found_in place.entry)) }

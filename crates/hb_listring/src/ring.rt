@@ -1,17 +1,15 @@
 //! `ListRing`: the last records of a log, by their positions.
-ghost use Rattle.std.specs.Prelude.{◌≡◌, ℕ, ◌^◌, ◌≤◌, List, [], length, IfOk};
-ghost use Rattle.hb_listring.specs.Log.{IsCapacity, IsSlot, StandsFor};
+ghost use Rattle.std.specs.Prelude.{◌≡◌, ℕ, ◌≤◌, List, [], length, IfOk};
+ghost use Rattle.hb_look.specs.Limits.{longest_record, most_records, largest_capacity, IsCapacity, IsSlot};
+ghost use Rattle.hb_listring.specs.Log.{StandsFor};
 ghost use Rattle.hb_listring.specs.Places.{IsFoundIn};
 ghost use Rattle.hb_listring.specs.Found.{found_in};
 
 use bytes::Bytes;
 use circular_buffer::HeapCircularBuffer;
-use hb_look::{Keep, NoMemory, Put};
+use hb_look::{Keep, MOST_RECORDS, NoMemory, Put};
 use std::alloc::Global;
 use std::marker::Model;
-
-// The count of records stays small enough that the sum of a few such counts fits 64 bits.
-const MOST_WRITTEN: u64 = 1 << 62;
 
 /// The last records of a log, in memory. A record is a list of bytes, and its position is its index
 /// among all records that were ever put, from 0 on.
@@ -24,8 +22,9 @@ pub struct ListRing {
 }
 
 impl Model for ListRing {
-    ghost use Rattle.std.specs.Prelude.{◌≡◌, ◌-◌, ◌^◌, ◌≤◌, length, min};
+    ghost use Rattle.std.specs.Prelude.{◌≡◌, ◌+◌, ◌-◌, ◌≤◌, length, min};
     ghost use Rattle.std.specs.List.{All};
+    ghost use Rattle.hb_look.specs.Limits.{longest_record, most_records, largest_capacity};
     ghost use Rattle.hb_listring.specs.Log.{Kept};
 
     ghost Value = { Kept };
@@ -37,8 +36,9 @@ impl Model for ListRing {
       records = r.records.items;
     } };
 
-    ghost invariant = { λ r. (1 ≤ r.records.capacity) × (r.records.capacity ≤ 2 ^ 16)
-        × (r.slot_bytes ≤ 65024) × (r.written ≤ 2 ^ 62)
+    ghost invariant = { λ r. (1 ≤ r.records.capacity)
+        × (r.records.capacity ≤ largest_capacity + 1)
+        × (r.slot_bytes ≤ longest_record) × (r.written ≤ most_records)
         × (length r.records.items ≡ min r.written r.records.capacity)
         × All (λ bytes. length bytes ≤ r.slot_bytes) r.records.items };
 }
@@ -79,7 +79,7 @@ impl ListRing {
     pub fn written(&self) -> u64
         ensures written { result ≡ self.now.written }
         ensures log { (log : List (List ℕ)) → StandsFor self.now log → length log ≡ result }
-        ensures most { result ≤ 2 ^ 62 }
+        ensures most { result ≤ most_records }
     {
         self.written
     }
@@ -87,7 +87,8 @@ impl ListRing {
     /// How many of the last records it keeps, beside the one that is overwritten next.
     pub(crate) fn capacity(&self) -> u64
         ensures capacity { result ≡ self.now.capacity }
-        ensures bounds { (self.now.capacity ≤ 65535) × (self.now.slot ≤ 65024) }
+        ensures bounds { (self.now.capacity ≤ largest_capacity)
+            × (self.now.slot ≤ longest_record) }
     {
         self.records.capacity() as u64 - 1
     }
@@ -131,7 +132,7 @@ impl Keep for ListRing {
         if bytes.len() > self.slot_bytes {
             return Put::TooLong;
         }
-        if self.written == MOST_WRITTEN {
+        if self.written == MOST_RECORDS {
             return Put::Spent;
         }
         let Ok(record) = Bytes::copy_from_slice(self.alloc, bytes) else {

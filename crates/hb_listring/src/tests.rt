@@ -1,22 +1,25 @@
 //! Rows worked out by hand, which also show that each call succeeds where there is memory; and that a
 //! reader is known again once the eye is let go through which a generic function looked.
-ghost use Rattle.std.specs.Prelude.{◌≡◌, ◌+◌, ◌^◌, ◌<◌, ◌≤◌, ℕ, List, length, IfSome};
+ghost use Rattle.std.specs.Prelude.{◌≡◌, ◌+◌, ◌<◌, ◌≤◌, ℕ, List, length, IfSome};
+ghost use Rattle.hb_look.specs.Limits.{most_records, IsCapacity};
 ghost use Rattle.hb_look.specs.Reader.{fresh};
 ghost use Rattle.hb_look.specs.Answers.{IsFoundAt, found_by, with_look};
 ghost use Rattle.hb_listring.specs.Log.{StandsFor};
 ghost use Rattle.hb_listring.specs.Places.{HasSeenAtMost};
 
 use super::*;
-use hb_look::{Keep, Look, Looked, Put, Record};
+use hb_cases::{Row, bytes, number, rows};
+use hb_look::{Keep, Look, Looked, MOST_RECORDS, Put, Record};
 use std::alloc::Global;
+use std::process::Abort;
 use std::test::*;
 
 const SLOT: usize = 64;
 
 /// Looks through any reader, at a moment that is told by the position.
 fn look_through<R: Look>(reader: &mut R, position: u64, out: &mut Record) -> Looked
-    requires unspent { length (R.reader reader.old).looks < 2 ^ 62 }
-    requires place { position ≤ 2 ^ 62 }
+    requires unspent { length (R.reader reader.old).looks < most_records }
+    requires place { position ≤ most_records }
     requires room { R.longest reader.old ≤ out.old.room }
     ensures listed { (R.reader reader.new).looks ≡ with_look (R.reader reader.old).looks
         position position (found_by result out.new.bytes) }
@@ -34,8 +37,8 @@ fn look_through<R: Look>(reader: &mut R, position: u64, out: &mut Record) -> Loo
 /// ring's log has, and the ring is its ring still.
 fn look_at(ring: &ListRing, reader: &mut ListReader, position: u64, out: &mut Record) -> Looked
     requires seen { HasSeenAtMost ring.now.written reader.old }
-    requires unspent { length reader.old.looks < 2 ^ 62 }
-    requires place { position ≤ 2 ^ 62 }
+    requires unspent { length reader.old.looks < most_records }
+    requires place { position ≤ most_records }
     requires room { ring.now.slot ≤ out.old.room }
     ensures seen { HasSeenAtMost ring.now.written reader.new }
     ensures listed { reader.new.looks ≡ with_look reader.old.looks
@@ -59,30 +62,99 @@ fn reader_and_buffer(alloc: Global, room: usize) -> Option<(ListReader, Record)>
     ))
 }
 
-/// A ring of capacity 3 with five records: two bytes each, of which the first is 10 and the position.
-fn five_of_capacity_3(alloc: Global) -> Option<ListRing>
-    ensures slot { IfSome result (λ ring. ring.slot ≡ 64) }
-{
-    let mut ring = ListRing::open(alloc, 3, SLOT).ok()?;
-    for byte in 10..15 {
-        match ring.put(&[byte, 7]) {
-            Put::Done => {}
-            _ => return None,
-        }
-    }
-    Some(ring)
+/// A ring, a reader for it alone, and a buffer for its longest record.
+#[derive(Drop)]
+struct Bench {
+    ring: ListRing,
+    reader: ListReader,
+    out: Record,
+    ghost within: { HasSeenAtMost ring.written reader },
+    ghost room: { ring.slot ≤ out.room },
 }
+
+impl Bench {
+    fn open(alloc: Global, capacity: u64) -> Option<Bench>
+        requires capacity { IsCapacity capacity }
+    {
+        let ring = ListRing::open(alloc, capacity, SLOT).ok()?;
+        let (reader, out) = reader_and_buffer(alloc, SLOT)?;
+        Some(Bench { ring, reader, out })
+    }
+
+    fn put(&mut self, bytes: &[u8]) -> Put {
+        self.ring.put(bytes)
+    }
+
+    fn look(&mut self, position: u32) -> Looked {
+        if self.reader.looked() >= MOST_RECORDS {
+            return Looked::NoMemory;
+        }
+        look_at(
+            &self.ring,
+            &mut self.reader,
+            u64::from(position),
+            &mut self.out,
+        )
+    }
+}
+
+/// Whether a record is put as its row says.
+fn puts(alloc: Global, bench: &mut Bench, row: Row<'_>) -> Result<bool, Fail> {
+    let put = bench.put(bytes(alloc, row.cell(1))?.as_slice());
+    Ok(format!(in alloc; "{put:?}")?.as_str() == row.cell(2))
+}
+
+/// Whether a look at a position finds what its row says, and the record where it gets one.
+fn finds(alloc: Global, bench: &mut Bench, row: Row<'_>) -> Result<bool, Fail> {
+    let looked = bench.look(number(row.cell(1))?);
+    if format!(in alloc; "{looked:?}")?.as_str() != row.cell(2) {
+        return Ok(false);
+    }
+    Ok(looked != Looked::Got || bench.out.bytes() == bytes(alloc, row.cell(3))?.as_slice())
+}
+
+/// Makes the calls, one a row.
+fn follow(rt: &impl Abort, alloc: Global, bench: &mut Bench, calls: &str) -> Result<(), Fail> {
+    for row in &rows(alloc, calls)? {
+        let goes = match row.cell(0) {
+            "put" => puts(alloc, bench, *row)?,
+            "look" => finds(alloc, bench, *row)?,
+            _ => false,
+        };
+        assert!(rt; goes, "{row}");
+    }
+    Ok(())
+}
+
+fn of_capacity_3(alloc: Global) -> Option<Bench> {
+    Bench::open(alloc, 3)
+}
+
+/// Five records.
+const FIVE: &str = "
+    put | 0a 07 | Done
+    put | 0b 07 | Done
+    put | 0c 07 | Done
+    put | 0d 07 | Done
+    put | 0e 07 | Done
+";
 
 #[test]
 fn looks_at_five_records_in_a_ring_of_capacity_3(rt: HostRuntime) -> Result<(), Fail> {
-    let ring = five_of_capacity_3(rt.alloc()).ok_or("there is memory")?;
-    let (mut reader, mut out) = reader_and_buffer(rt.alloc(), SLOT).ok_or("there is memory")?;
-    assert_eq!(rt; look_at(&ring, &mut reader, 0, &mut out), Looked::Gone(1));
-    assert_eq!(rt; look_at(&ring, &mut reader, 1, &mut out), Looked::Got);
-    assert_eq!(rt; out.bytes(), [11, 7].as_slice());
-    assert_eq!(rt; look_at(&ring, &mut reader, 4, &mut out), Looked::Got);
-    assert_eq!(rt; out.bytes(), [14, 7].as_slice());
-    assert_eq!(rt; look_at(&ring, &mut reader, 5, &mut out), Looked::NotYet);
+    let mut bench = of_capacity_3(rt.alloc()).ok_or("there is memory")?;
+    follow(&rt, rt.alloc(), &mut bench, FIVE)?;
+    let calls = "
+        look | 0 | Gone(1)
+        look | 1 | Got | 0b 07
+        look | 4 | Got | 0e 07
+        look | 5 | NotYet
+    ";
+    follow(&rt, rt.alloc(), &mut bench, calls)?;
+    let Bench {
+        ring,
+        mut reader,
+        ..
+    } = bench;
     let mut eye = ListEye {
         reader: &mut reader,
         ring: &ring,
@@ -94,33 +166,32 @@ fn looks_at_five_records_in_a_ring_of_capacity_3(rt: HostRuntime) -> Result<(), 
 
 #[test]
 fn a_record_is_overwritten_between_two_looks(rt: HostRuntime) -> Result<(), Fail> {
-    let mut ring = five_of_capacity_3(rt.alloc()).ok_or("there is memory")?;
-    let (mut reader, mut out) = reader_and_buffer(rt.alloc(), SLOT).ok_or("there is memory")?;
-    assert_eq!(rt; look_at(&ring, &mut reader, 1, &mut out), Looked::Got);
-    assert_eq!(rt; ring.put(b"more"), Put::Done);
-    assert_eq!(rt; look_at(&ring, &mut reader, 1, &mut out), Looked::Gone(2));
-    assert_eq!(rt; look_at(&ring, &mut reader, 5, &mut out), Looked::Got);
-    assert_eq!(rt; out.bytes(), b"more".as_slice());
-    assert_eq!(rt; look_at(&ring, &mut reader, 6, &mut out), Looked::NotYet);
-    Ok(())
+    let mut bench = of_capacity_3(rt.alloc()).ok_or("there is memory")?;
+    follow(&rt, rt.alloc(), &mut bench, FIVE)?;
+    let calls = r#"
+        look | 1      | Got | 0b 07
+        put  | "more" | Done
+        look | 1      | Gone(2)
+        look | 5      | Got | "more"
+        look | 6      | NotYet
+    "#;
+    follow(&rt, rt.alloc(), &mut bench, calls)
 }
 
 #[test]
 fn three_records_in_a_ring_of_capacity_1(rt: HostRuntime) -> Result<(), Fail> {
-    let mut ring = ListRing::open(rt.alloc(), 1, SLOT)
-        .ok()
-        .ok_or("there is memory")?;
-    assert_eq!(rt; ring.put(b"a"), Put::Done);
-    assert_eq!(rt; ring.put(b""), Put::Done);
-    assert_eq!(rt; ring.put(b"ccc"), Put::Done);
-    assert_eq!(rt; ring.written(), 3);
-    let (mut reader, mut out) = reader_and_buffer(rt.alloc(), SLOT).ok_or("there is memory")?;
-    assert_eq!(rt; look_at(&ring, &mut reader, 2, &mut out), Looked::Got);
-    assert_eq!(rt; out.bytes(), b"ccc".as_slice());
-    assert_eq!(rt; look_at(&ring, &mut reader, 1, &mut out), Looked::Got);
-    assert_eq!(rt; out.bytes(), b"".as_slice());
-    assert_eq!(rt; look_at(&ring, &mut reader, 0, &mut out), Looked::Gone(1));
-    assert_eq!(rt; look_at(&ring, &mut reader, 3, &mut out), Looked::NotYet);
+    let mut bench = Bench::open(rt.alloc(), 1).ok_or("there is memory")?;
+    let calls = r#"
+        put  | "a"   | Done
+        put  | -     | Done
+        put  | "ccc" | Done
+        look | 2     | Got | "ccc"
+        look | 1     | Got | -
+        look | 0     | Gone(1)
+        look | 3     | NotYet
+    "#;
+    follow(&rt, rt.alloc(), &mut bench, calls)?;
+    assert_eq!(rt; bench.ring.written(), 3);
     Ok(())
 }
 

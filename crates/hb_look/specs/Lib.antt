@@ -1,3 +1,4 @@
+pub mod Limits
 pub mod Looks
 pub mod Stands
 pub mod Reader

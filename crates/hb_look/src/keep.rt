@@ -1,5 +1,6 @@
 //! The writer of a ring.
-ghost use Rattle.std.specs.Prelude.{◌≡◌, ◌≢◌, ◌↔◌, ℕ, ◌+◌, ◌^◌, ◌<◌, ◌≤◌, List, [], ◌∷◌, ◌++◌, length};
+ghost use Rattle.std.specs.Prelude.{◌≡◌, ◌≢◌, ◌↔◌, ℕ, ◌+◌, ◌<◌, ◌≤◌, List, [], ◌∷◌, ◌++◌, length};
+ghost use Rattle.hb_look.specs.Limits.{most_records};
 
 /// What became of a record that was put. After each answer but `Done` the ring is as it was.
 #[derive(Clone, Copy, Debug, PartialEq, Eq)]
@@ -8,7 +9,7 @@ pub enum Put {
     Done,
     /// The record has more bytes than the ring takes.
     TooLong,
-    /// 2^62 records were put: there is no further position.
+    /// `MOST_RECORDS` records were put: there is no further position.
     Spent,
     /// There was no memory for the record's bytes.
     NoMemory,
@@ -38,7 +39,7 @@ pub trait Keep {
             → stands_for self.new (log ++ bytes.now ∷ []) }
         ensures too_long { (result ≡ Put.TooLong) ↔ (longest self.old < length bytes.now) }
         ensures spent { (result ≡ Put.Spent)
-            ↔ ((length bytes.now ≤ longest self.old) × (written self.old ≡ 2 ^ 62)) }
+            ↔ ((length bytes.now ≤ longest self.old) × (written self.old ≡ most_records)) }
         ensures kept { result ≢ Put.Done → self.new ≡ self.old }
         ensures written { result ≡ Put.Done → written self.new ≡ written self.old + 1 }
         ensures limits { longest self.new ≡ longest self.old }

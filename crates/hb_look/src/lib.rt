@@ -9,6 +9,7 @@
 mod buffer;
 mod keep;
 mod laws;
+mod limits;
 mod look;
 mod no_memory;
 #[cfg(test)]
@@ -17,5 +18,6 @@ mod tests;
 pub use buffer::Record;
 pub use keep::{Keep, Put};
 pub use laws::{no_look_goes_back, one_finding, stands_for_more};
+pub use limits::{LONGEST_RECORD, MOST_RECORDS};
 pub use look::{Look, Looked};
 pub use no_memory::NoMemory;

@@ -1,5 +1,6 @@
 //! The reader of a ring.
-ghost use Rattle.std.specs.Prelude.{◌≡◌, ◌≢◌, ℕ, ◌^◌, ◌<◌, ◌≤◌, List, length, IfSome};
+ghost use Rattle.std.specs.Prelude.{◌≡◌, ◌≢◌, ℕ, ◌<◌, ◌≤◌, List, length, IfSome};
+ghost use Rattle.hb_look.specs.Limits.{longest_record, most_records, largest_capacity};
 ghost use Rattle.hb_look.specs.Reader.{Loaded, IsLater, HasCause, ReaderStandsFor};
 ghost use Rattle.hb_look.specs.Answers.{found_by, with_look, IsFoundAt};
 
@@ -44,8 +45,8 @@ pub trait Look {
     /// Looks at a position, at a moment in nanoseconds since 1970-01-01T00:00:00Z. A record that is
     /// there is put into the buffer, in the place of what it holds.
     fn look(&mut self, position: u64, moment: u64, out: &mut Record) -> Looked
-        requires unspent { length (reader self.old).looks < 2 ^ 62 }
-        requires place { position ≤ 2 ^ 62 }
+        requires unspent { length (reader self.old).looks < most_records }
+        requires place { position ≤ most_records }
         requires room { longest self.old ≤ out.old.room }
 
         // The look is the reader's next, and has its cause in what it loaded.
@@ -54,8 +55,8 @@ pub trait Look {
         ensures cause { IfSome (found_by result out.new.bytes)
             (HasCause (capacity self.old) position (reader self.old) (reader self.new)) }
         ensures later { IsLater (reader self.old) (reader self.new) }
-        ensures most { ((reader self.new).finished.count ≤ 2 ^ 62)
-            × ((reader self.new).begun.count ≤ 2 ^ 62) }
+        ensures most { ((reader self.new).finished.count ≤ most_records)
+            × ((reader self.new).begun.count ≤ most_records) }
 
         // Where it tells the ring's log, the answer is that of the log.
         ensures told { (log : List (List ℕ)) → tells self.old log → IfSome
@@ -80,7 +81,7 @@ pub trait Look {
         ensures loaded { Loaded (reader self.old).finished (reader self.new).finished }
         ensures seen { result ≡ (reader self.new).finished.count }
         ensures later { IsLater (reader self.old) (reader self.new) }
-        ensures most { (result ≤ 2 ^ 62) × ((reader self.new).begun.count ≤ 2 ^ 62) }
+        ensures most { (result ≤ most_records) × ((reader self.new).begun.count ≤ most_records) }
         ensures told { (log : List (List ℕ)) → tells self.old log → result ≡ length log }
         ensures stands { (log : List (List ℕ)) → tells self.old log
             → ReaderStandsFor log (capacity self.old) (reader self.old)
@@ -94,9 +95,11 @@ pub trait Look {
     /// How many of the last records the ring keeps for its readers.
     fn capacity(&self) -> u64
         ensures capacity { result ≡ capacity self.now }
-        ensures bounds { (capacity self.now ≤ 65535) × (longest self.now ≤ 65024) };
+        ensures bounds { (capacity self.now ≤ largest_capacity)
+            × (longest self.now ≤ longest_record) };
 
     /// How many looks it made.
     fn looked(&self) -> u64
-        ensures looked { (result ≡ length (reader self.now).looks) × (result ≤ 2 ^ 62) };
+        ensures looked { (result ≡ length (reader self.now).looks)
+            × (result ≤ most_records) };
 }

@@ -1,0 +1,9 @@
+-- each return but the one where memory was refused is as told
+use Rattle.std.proofs.Common.{rules, inl}
+use Rattle.hb_edge.proofs.mem_sink.MemSinkSink.write.Goals as goal
+
+pub returns-then-contains-clause-exact : goal.returns-then-contains-clause-exact
+returns-then-contains-clause-exact c h is = inl (search rules)
+
+pub returns-clause-exact : goal.returns-clause-exact
+returns-clause-exact c h is = inl (search rules)
