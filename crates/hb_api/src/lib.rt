@@ -6,10 +6,12 @@
 #![tactic(auto)]
 
 mod laws;
+mod limits;
 mod request;
 
 pub use hb_flow::GetFlowsResponse;
 pub use laws::{least_fault, read_fits, written_is_read};
+pub use limits::LONGEST_NAME;
 pub use request::GetFlowsRequest;
 
 #[cfg(test)]

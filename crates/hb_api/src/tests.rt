@@ -1,311 +1,256 @@
-//! Rows of bytes worked out by hand from the Protocol Buffers encoding guide.
+//! Rows of bytes worked out by hand from the Protocol Buffers encoding guide. What they read as is
+//! told in words: the fields that are there, as in `number=2 first since=1s,2ns unknown=1801`, bytes
+//! in hexadecimal digits; `-` where there is none; or the fault and its place.
 
 use super::*;
+use hb_cases::{bytes, digits, number, rows};
 use hb_flow::DecodeFault;
 use hb_time::Stamp;
-use hb_wire::Seq;
 use std::alloc::Global;
 use std::process::Abort;
 use std::test::*;
 
-// A request's number, first, since, until and bytes that are not known.
-type Row<'a> = (u64, bool, Option<Stamp>, Option<Stamp>, &'a [u8]);
-
-const NOTHING: Row<'static> = (0, false, None, None, &[]);
-
-// Its fields end at 2, 8, 12, 14 and 16.
-const WHOLE: [u8; 16] = [
-    0x08, 2, 0x3a, 4, 0x08, 1, 0x10, 2, 0x42, 2, 0x08, 3, 0x48, 1, 0x18, 1,
-];
-
-const WHOLE_ROW: Row<'static> = (
-    2,
-    true,
-    Some(Stamp { secs: 1, nanos: 2 }),
-    Some(Stamp { secs: 3, nanos: 0 }),
-    &[0x18, 1],
-);
-
-fn stamp(secs: i64, nanos: i32) -> Option<Stamp> {
-    Some(Stamp { secs, nanos })
+/// Appends a word behind a blank.
+fn put(out: &mut String, word: &str) -> Result<(), Fail> {
+    if !out.is_empty() {
+        out.push(' ')?;
+    }
+    out.push_str(word)?;
+    Ok(())
 }
 
-fn number(number: u64) -> Row<'static> {
-    (number, false, None, None, &[])
-}
-
-fn first(first: bool) -> Row<'static> {
-    (0, first, None, None, &[])
-}
-
-fn since(secs: i64, nanos: i32) -> Row<'static> {
-    (0, false, stamp(secs, nanos), None, &[])
-}
-
-fn until(secs: i64, nanos: i32) -> Row<'static> {
-    (0, false, None, stamp(secs, nanos), &[])
-}
-
-fn only(unknown: &[u8]) -> Row<'_> {
-    (0, false, None, None, unknown)
-}
-
-fn row_of(request: &GetFlowsRequest) -> Row<'_> {
-    let unknown = request.unknown.as_slice();
-    let (since, until) = (request.since, request.until);
-    (request.number, request.first, since, until, unknown)
-}
-
-fn request_of(alloc: Global, row: Row<'_>) -> Result<GetFlowsRequest, Fail> {
-    let (number, first, since, until, kept) = row;
-    let mut unknown = Seq::new(alloc)?;
-    unknown.extend_from_slice(kept)?;
-    Ok(GetFlowsRequest {
-        number,
-        first,
-        since,
-        until,
-        unknown,
-    })
-}
-
-fn all_read(rt: &impl Abort, alloc: Global, cases: &[(&[u8], Row<'_>)]) -> Result<(), Fail> {
-    for (bytes, want) in cases {
-        let request = GetFlowsRequest::read(alloc, bytes).ok().ok_or("a request")?;
-        assert_eq!(rt; row_of(&request), *want, "at {bytes:?}");
+fn put_time(alloc: Global, out: &mut String, name: &str, time: Option<Stamp>) -> Result<(), Fail> {
+    if let Some(Stamp { secs, nanos }) = time {
+        put(out, &format!(in alloc; "{name}={secs}s,{nanos}ns")?)?;
     }
     Ok(())
 }
 
-fn fault_in(alloc: Global, bytes: &[u8]) -> Option<DecodeFault> {
-    GetFlowsRequest::read(alloc, bytes).err()
+fn request_words(alloc: Global, request: &GetFlowsRequest) -> Result<String, Fail> {
+    let mut out = String::new(alloc);
+    let (number, unknown) = (request.number, request.unknown.as_slice());
+    if number != 0 {
+        put(&mut out, &format!(in alloc; "number={number}")?)?;
+    }
+    if request.first {
+        put(&mut out, "first")?;
+    }
+    put_time(alloc, &mut out, "since", request.since)?;
+    put_time(alloc, &mut out, "until", request.until)?;
+    if !unknown.is_empty() {
+        let unknown = digits(alloc, unknown)?;
+        put(&mut out, &format!(in alloc; "unknown={unknown}")?)?;
+    }
+    if out.is_empty() {
+        put(&mut out, "-")?;
+    }
+    Ok(out)
+}
+
+fn fault_words(alloc: Global, fault: DecodeFault) -> Result<String, Fail> {
+    let text = match fault {
+        DecodeFault::Malformed { at } => format!(in alloc; "malformed {at}"),
+        DecodeFault::BadUtf8 { at } => format!(in alloc; "bad utf8 {at}"),
+        DecodeFault::NoMemory => String::from_str(alloc, "no memory"),
+    };
+    Ok(text?)
+}
+
+/// What the bytes of a request read as.
+fn read_words(alloc: Global, message: &[u8]) -> Result<String, Fail> {
+    match GetFlowsRequest::read(alloc, message) {
+        Ok(request) => request_words(alloc, &request),
+        Err(fault) => fault_words(alloc, fault),
+    }
+}
+
+/// Compares, row by row, what the bytes in one cell read as with the words in another.
+fn all_read(
+    rt: &impl Abort,
+    alloc: Global,
+    table: &str,
+    from: usize,
+    to: usize,
+) -> Result<(), Fail> {
+    for row in rows(alloc, table)? {
+        let words = read_words(alloc, &bytes(alloc, row.cell(from))?)?;
+        assert_eq!(rt; words.as_str(), row.cell(to), "{row}");
+    }
+    Ok(())
+}
+
+/// What is written of the request that these bytes read as, behind a byte that stays.
+fn anew(alloc: Global, message: &[u8]) -> Result<Vec<u8>, Fail> {
+    let mut out = Vec::from_slice(alloc, &[0xff])?;
+    if let Ok(request) = GetFlowsRequest::read(alloc, message) {
+        request.write(&mut out)?;
+    }
+    let rest = out.strip_prefix(&[0xff]).ok_or("what stood there")?;
+    Ok(rest.to_vec(alloc)?)
+}
+
+/// Compares, row by row, what is written of the bytes in one cell with those in another.
+fn all_written(
+    rt: &impl Abort,
+    alloc: Global,
+    table: &str,
+    from: usize,
+    to: usize,
+) -> Result<(), Fail> {
+    for row in rows(alloc, table)? {
+        let out = anew(alloc, &bytes(alloc, row.cell(from))?)?;
+        assert_eq!(rt; out, bytes(alloc, row.cell(to))?, "{row}");
+    }
+    Ok(())
 }
 
 #[test]
 fn a_request_of_no_field(rt: HostRuntime) -> Result<(), Fail> {
     let request = GetFlowsRequest::new(rt.alloc())?;
-    assert_eq!(rt; row_of(&request), NOTHING);
+    assert_eq!(rt; request_words(rt.alloc(), &request)?.as_str(), "-");
     let mut out = Vec::new(rt.alloc());
     request.write(&mut out)?;
     assert!(rt; out.is_empty());
     Ok(())
 }
 
-#[test]
-fn any_order_the_last_and_merged(rt: HostRuntime) -> Result<(), Fail> {
-    let turned = [
-        0x18, 1, 0x48, 1, 0x42, 2, 0x08, 3, 0x3a, 4, 0x10, 2, 0x08, 1, 0x08, 2,
-    ];
-    all_read(
-        &rt,
-        rt.alloc(),
-        &[
-            (&[], NOTHING),
-            (&[0x08, 2, 0x48, 1], (2, true, None, None, &[])),
-            (&WHOLE, WHOLE_ROW),
-            (&turned, WHOLE_ROW),
-            // There, and empty.
-            (&[0x3a, 0], since(0, 0)),
-            (&[0x42, 0], until(0, 0)),
-            // The last one counts.
-            (&[0x08, 1, 0x08, 5], number(5)),
-            (&[0x08, 5, 0x08, 0], number(0)),
-            (&[0x48, 1, 0x48, 0], first(false)),
-            // Moments in two fields are one, whatever stands between.
-            (&[0x3a, 2, 0x08, 1, 0x3a, 2, 0x10, 2], since(1, 2)),
-            (&[0x42, 4, 0x08, 1, 0x10, 2, 0x42, 2, 0x08, 3], until(3, 2)),
-            (
-                &[0x3a, 2, 0x08, 1, 0x42, 2, 0x08, 3, 0x3a, 2, 0x10, 2],
-                (0, false, stamp(1, 2), stamp(3, 0), &[]),
-            ),
-        ],
-    )
-}
+const READ: &str = "
+    - | -
+    0802 4801 | number=2 first
+    0802 3a04 0801 1002 4202 0803 4801 1801 | number=2 first since=1s,2ns until=3s,0ns unknown=1801
+    # The same, turned.
+    1801 4801 4202 0803 3a04 1002 0801 0802 | number=2 first since=1s,2ns until=3s,0ns unknown=1801
+    # There, and empty.
+    3a00 | since=0s,0ns
+    4200 | until=0s,0ns
+    # The last one counts.
+    0801 0805 | number=5
+    0805 0800 | -
+    4801 4800 | -
+    # Moments in two fields are one, whatever stands between.
+    3a02 0801 3a02 1002 | since=1s,2ns
+    4204 0801 1002 4202 0803 | until=3s,2ns
+    3a02 0801 4202 0803 3a02 1002 | since=1s,2ns until=3s,0ns
+    # 2^64 - 1, and before 1970.
+    08 ff*9 01 | number=18446744073709551615
+    3a0b 08 ff*9 01 | since=-1s,0ns
+    # Each number but 0 is true.
+    4800 | -
+    48 8000 | -
+    4802 | first
+    48 8002 | first
+    48 80*9 01 | first
+    # Longer than needed: a tag and a number, a tag and a length.
+    8800 828000 | number=2
+    ba00 8200 0801 | since=1s,0ns
+    # Follow, a blacklist and a whitelist, whose bodies are not looked at.
+    1801 | unknown=1801
+    1801 0802 2a00 3201 0b | number=2 unknown=18012a0032010b
+    # Known numbers, with a wire type that is not theirs.
+    0a01 05 | unknown=0a0105
+    09 0100000000000000 | unknown=090100000000000000
+    3807 | unknown=3807
+    4007 | unknown=4007
+    4a01 01 | unknown=4a0101
+    4d 01000000 | unknown=4d01000000
+    # As it was spelled.
+    9800 8100 | unknown=98008100
+    # A moment drops what it does not know.
+    3a04 1807 0801 | since=1s,0ns
+";
+
+const FAULTS: &str = "
+    # A varint that is cut, and one of more than 64 bits.
+    0802 4880 | malformed 2
+    1801 48 ff*9 02 | malformed 2
+    # A group begins and ends.
+    1801 0b 0c | malformed 2
+    1801 0c | malformed 2
+    0802 0001 | malformed 2
+    # A length past the end.
+    4801 3a02 08 | malformed 2
+    # In the body of since, and in that of until.
+    0802 3a03 1001 0b | malformed 6
+    4204 0801 1080 | malformed 4
+    # The two halves of a field are not joined.
+    3a01 08 3a01 01 | malformed 2
+    # The first of two.
+    3a01 0b 0b | malformed 2
+    # A moment that does not count is still read.
+    4201 0c 4202 0801 | malformed 2
+";
 
 #[test]
-fn numbers_of_any_spelling(rt: HostRuntime) -> Result<(), Fail> {
-    let greatest = [
-        0x08, 0xff, 0xff, 0xff, 0xff, 0xff, 0xff, 0xff, 0xff, 0xff, 0x01,
-    ];
-    let top_bit = [
-        0x48, 0x80, 0x80, 0x80, 0x80, 0x80, 0x80, 0x80, 0x80, 0x80, 0x01,
-    ];
-    let before_1970 = [
-        0x3a, 11, 0x08, 0xff, 0xff, 0xff, 0xff, 0xff, 0xff, 0xff, 0xff, 0xff, 0x01,
-    ];
-    all_read(
-        &rt,
-        rt.alloc(),
-        &[
-            (&greatest, number(u64::MAX)),
-            (&before_1970, since(-1, 0)),
-            // Each number but 0 is true.
-            (&[0x48, 0], first(false)),
-            (&[0x48, 0x80, 0x00], first(false)),
-            (&[0x48, 2], first(true)),
-            (&[0x48, 0x80, 0x02], first(true)),
-            (&top_bit, first(true)),
-            // Longer than needed: a tag and a number, a tag and a length.
-            (&[0x88, 0x00, 0x82, 0x80, 0x00], number(2)),
-            (&[0xba, 0x00, 0x82, 0x00, 0x08, 1], since(1, 0)),
-        ],
-    )
+fn requests_are_read(rt: HostRuntime) -> Result<(), Fail> {
+    all_read(&rt, rt.alloc(), READ, 0, 1)?;
+    all_read(&rt, rt.alloc(), FAULTS, 0, 1)
 }
 
-#[test]
-fn what_is_not_known_is_kept(rt: HostRuntime) -> Result<(), Fail> {
-    all_read(
-        &rt,
-        rt.alloc(),
-        &[
-            // Follow, a blacklist and a whitelist, whose bodies are not looked at.
-            (&[0x18, 1], only(&[0x18, 1])),
-            (
-                &[0x18, 1, 0x08, 2, 0x2a, 0, 0x32, 1, 0x0b],
-                (2, false, None, None, &[0x18, 1, 0x2a, 0, 0x32, 1, 0x0b]),
-            ),
-            // Known numbers, with a wire type that is not theirs.
-            (&[0x0a, 1, 5], only(&[0x0a, 1, 5])),
-            (
-                &[0x09, 1, 0, 0, 0, 0, 0, 0, 0],
-                only(&[0x09, 1, 0, 0, 0, 0, 0, 0, 0]),
-            ),
-            (&[0x38, 7], only(&[0x38, 7])),
-            (&[0x40, 7], only(&[0x40, 7])),
-            (&[0x4a, 1, 1], only(&[0x4a, 1, 1])),
-            (&[0x4d, 1, 0, 0, 0], only(&[0x4d, 1, 0, 0, 0])),
-            // As it was spelled.
-            (&[0x98, 0x00, 0x81, 0x00], only(&[0x98, 0x00, 0x81, 0x00])),
-            // A moment drops what it does not know.
-            (&[0x3a, 4, 0x18, 7, 0x08, 1], since(1, 0)),
-        ],
-    )
-}
+/// What the front of a request of 16 bytes reads as, by its size: from, to.
+const CUTS: &str = "
+    0 | 0 | -
+    1 | 1 | malformed 0
+    2 | 2 | number=2
+    3 | 7 | malformed 2
+    8 | 8 | number=2 since=1s,2ns
+    9 | 11 | malformed 8
+    12 | 12 | number=2 since=1s,2ns until=3s,0ns
+    13 | 13 | malformed 12
+    14 | 14 | number=2 first since=1s,2ns until=3s,0ns
+    15 | 15 | malformed 14
+    16 | 16 | number=2 first since=1s,2ns until=3s,0ns unknown=1801
+";
 
 #[test]
-fn every_cut_of_one_request(rt: HostRuntime) {
-    for size in 0..WHOLE.len() {
-        let start = match size {
-            0..=1 => 0,
-            2..=7 => 2,
-            8..=11 => 8,
-            12..=13 => 12,
-            _ => 14,
-        };
-        let want = match size == start {
-            true => None,
-            false => Some(DecodeFault::Malformed { at: start }),
-        };
-        assert_eq!(rt; fault_in(rt.alloc(), &WHOLE[..size]), want, "cut at {size}");
+fn every_cut_of_one_request(rt: HostRuntime) -> Result<(), Fail> {
+    let whole = bytes(rt.alloc(), "0802 3a04 0801 1002 4202 0803 4801 1801")?;
+    for row in rows(rt.alloc(), CUTS)? {
+        for size in number::<usize>(row.cell(0))?..=number(row.cell(1))? {
+            let cut = whole.get(..size).ok_or("a front")?;
+            assert_eq!(rt; read_words(rt.alloc(), cut)?.as_str(), row.cell(2), "{row}");
+        }
     }
+    Ok(())
 }
 
-#[test]
-fn no_field_starts_at_its_place(rt: HostRuntime) {
-    use hb_flow::DecodeFault::Malformed;
-    let long = [
-        0x18, 1, 0x48, 0xff, 0xff, 0xff, 0xff, 0xff, 0xff, 0xff, 0xff, 0xff, 0x02,
-    ];
-    let cases: [(&[u8], DecodeFault); 11] = [
-        // A varint that is cut, and one of more than 64 bits.
-        (&[0x08, 2, 0x48, 0x80], Malformed { at: 2 }),
-        (&long, Malformed { at: 2 }),
-        // A group begins and ends.
-        (&[0x18, 1, 0x0b, 0x0c], Malformed { at: 2 }),
-        (&[0x18, 1, 0x0c], Malformed { at: 2 }),
-        (&[0x08, 2, 0x00, 1], Malformed { at: 2 }),
-        // A length past the end.
-        (&[0x48, 1, 0x3a, 2, 0x08], Malformed { at: 2 }),
-        // In the body of since, and in that of until.
-        (&[0x08, 2, 0x3a, 3, 0x10, 1, 0x0b], Malformed { at: 6 }),
-        (&[0x42, 4, 0x08, 1, 0x10, 0x80], Malformed { at: 4 }),
-        // The two halves of a field are not joined.
-        (&[0x3a, 1, 0x08, 0x3a, 1, 0x01], Malformed { at: 2 }),
-        // The first of two.
-        (&[0x3a, 1, 0x0b, 0x0b], Malformed { at: 2 }),
-        // A moment that does not count is still read.
-        (&[0x42, 1, 0x0c, 0x42, 2, 0x08, 1], Malformed { at: 2 }),
-    ];
-    for (bytes, want) in &cases {
-        assert_eq!(rt; fault_in(rt.alloc(), bytes), Some(*want), "at {bytes:?}");
-    }
-}
+/// Canonical spellings.
+const CANONICAL: &str = "
+    - | -
+    0802 4801 | number=2 first
+    08 ff*9 01 | number=18446744073709551615
+    4801 | first
+    3a00 4200 | since=0s,0ns until=0s,0ns
+    4216 08 ff*9 01 10 ff*9 01 | until=-1s,-1ns
+    0802 3a04 0801 1002 4202 0803 4801 1801 | number=2 first since=1s,2ns until=3s,0ns unknown=1801
+";
 
 #[test]
 fn requests_are_written(rt: HostRuntime) -> Result<(), Fail> {
-    let greatest = [
-        0x08, 0xff, 0xff, 0xff, 0xff, 0xff, 0xff, 0xff, 0xff, 0xff, 0x01,
-    ];
-    let negatives = [
-        0x42, 22, 0x08, 0xff, 0xff, 0xff, 0xff, 0xff, 0xff, 0xff, 0xff, 0xff, 0x01, 0x10, 0xff,
-        0xff, 0xff, 0xff, 0xff, 0xff, 0xff, 0xff, 0xff, 0x01,
-    ];
-    let cases: [(Row<'_>, &[u8]); 7] = [
-        (NOTHING, &[]),
-        ((2, true, None, None, &[]), &[0x08, 2, 0x48, 1]),
-        (number(u64::MAX), &greatest),
-        (first(true), &[0x48, 1]),
-        (
-            (0, false, stamp(0, 0), stamp(0, 0), &[]),
-            &[0x3a, 0, 0x42, 0],
-        ),
-        (until(-1, -1), &negatives),
-        (WHOLE_ROW, &WHOLE),
-    ];
-    for (row, want) in &cases {
-        let request = request_of(rt.alloc(), *row)?;
-        let mut out = Vec::new(rt.alloc());
-        let mut wanted = Vec::new(rt.alloc());
-        out.push(0xff)?;
-        wanted.push(0xff)?;
-        wanted.extend_from_slice(want)?;
-        request.write(&mut out)?;
-        assert_eq!(rt; out.as_slice(), wanted.as_slice(), "at {row:?}");
-    }
-    Ok(())
+    all_read(&rt, rt.alloc(), CANONICAL, 0, 1)?;
+    all_written(&rt, rt.alloc(), CANONICAL, 0, 0)
 }
 
-// Requests, and how they are written anew.
-const ANEW: [(&[u8], &[u8]); 7] = [
-    // True is 1, and false is not written.
-    (&[0x48, 2], &[0x48, 1]),
-    (&[0x08, 5, 0x48, 1, 0x48, 0], &[0x08, 5]),
-    // What is not known comes last, in its order and spelling.
-    (
-        &[0x18, 1, 0x42, 0, 0x32, 1, 0x0b, 0x3a, 0, 0x98, 0x00, 0x00],
-        &[0x3a, 0, 0x42, 0, 0x18, 1, 0x32, 1, 0x0b, 0x98, 0x00, 0x00],
-    ),
-    // A known number with another wire type is not put in its place.
-    (&[0x38, 7, 0x48, 1], &[0x48, 1, 0x38, 7]),
-    // In two fields.
-    (
-        &[0x3a, 2, 0x10, 2, 0x3a, 2, 0x08, 1],
-        &[0x3a, 4, 0x08, 1, 0x10, 2],
-    ),
-    // What a moment does not know is gone.
-    (&[0x3a, 4, 0x18, 7, 0x08, 1], &[0x3a, 2, 0x08, 1]),
-    // Longer than needed, and a default.
-    (
-        &[
-            0x88, 0x00, 0x82, 0x80, 0x00, 0xba, 0x00, 0x82, 0x00, 0x08, 0,
-        ],
-        &[0x08, 2, 0x3a, 0],
-    ),
-];
+/// Requests, how they are written anew, and what both read as.
+const ANEW: &str = "
+    # True is 1, and false is not written.
+    4802 | 4801 | first
+    0805 4801 4800 | 0805 | number=5
+    # What is not known comes last, in its order and spelling.
+    1801 4200 3201 0b 3a00 9800 00 | 3a00 4200 1801 3201 0b 9800 00 | since=0s,0ns until=0s,0ns unknown=180132010b980000
+    # A known number with another wire type is not put in its place.
+    3807 4801 | 4801 3807 | first unknown=3807
+    # In two fields.
+    3a02 1002 3a02 0801 | 3a04 0801 1002 | since=1s,2ns
+    # What a moment does not know is gone.
+    3a04 1807 0801 | 3a02 0801 | since=1s,0ns
+    # Longer than needed, and a default.
+    8800 828000 ba00 8200 0800 | 0802 3a00 | number=2 since=0s,0ns
+";
 
 #[test]
 fn what_was_written_is_read_again(rt: HostRuntime) -> Result<(), Fail> {
-    for (bytes, want) in &ANEW {
-        let request = GetFlowsRequest::read(rt.alloc(), bytes)
-            .ok()
-            .ok_or("a request")?;
-        let mut out = Vec::new(rt.alloc());
-        request.write(&mut out)?;
-        assert_eq!(rt; out.as_slice(), *want, "at {bytes:?}");
-        let again = GetFlowsRequest::read(rt.alloc(), want)
-            .ok()
-            .ok_or("what was written")?;
-        assert_eq!(rt; row_of(&again), row_of(&request), "at {bytes:?}");
-    }
-    Ok(())
+    all_written(&rt, rt.alloc(), ANEW, 0, 1)?;
+    all_written(&rt, rt.alloc(), ANEW, 1, 1)?;
+    all_read(&rt, rt.alloc(), ANEW, 0, 2)?;
+    all_read(&rt, rt.alloc(), ANEW, 1, 2)
 }

@@ -7,6 +7,7 @@ pub mod Records
 pub mod MessagesAgain
 pub mod Again
 pub mod Joining
+pub mod Dividing
 pub mod Merging
 pub mod ByNumber
 pub mod LostEvents
@@ -16,3 +17,4 @@ pub mod Reading
 pub mod Fitting
 pub mod Events
 pub mod Least
+pub mod Sizes

@@ -2,8 +2,12 @@
 use Rattle.std.specs.Prelude.{ℕ, zero, suc, List, [], ◌∷◌, ◌++◌, length, take, drop, map, Option, Some, None, Bool, false, ◌==◌, ◌&&◌, ◌||◌, if◌then◌else◌}
 use Rattle.std.specs.Option.{option_map, option_map_or}
 use Rattle.std.specs.List.{filter_map, flat_map, list_all}
-use Rattle.hb_wire.specs.Field.{Content, Varint, Fixed64, Body, Fixed32, Piece, wire_type}
+use Rattle.hb_wire.specs.Field.{Content, Varint, Fixed64, Body, Fixed32, Piece, wire_type, SpellsField}
 use Rattle.hb_wire.specs.Reading.{field_at}
+
+-- no bytes at the front spell a field
+abbrev pub StartsNoField : List ℕ → Type 0
+StartsNoField bytes = (piece : Piece) (size : ℕ) → SpellsField (take size bytes) piece → ⊥
 
 -- a field, and the bytes that spell it
 pub record Part : Type 0 where

@@ -1,9 +1,9 @@
 //! The laws of the messages' definitions.
-ghost use Rattle.std.specs.Prelude.{◌≡◌, ◌<◌, ◌≤◌, ◌^◌, ℕ, List, Some, None, length};
+ghost use Rattle.std.specs.Prelude.{◌≡◌, ◌<◌, ◌≤◌, ◌^◌, ℕ, List, ◌++◌, Some, None, length};
 ghost use Rattle.std.specs.List.{flat_map, AllByRecursion};
 ghost use Rattle.hb_wire.specs.Varint.{AreBytes};
 ghost use Rattle.hb_wire.specs.Field.{SpellsField};
-ghost use Rattle.hb_flow.specs.Fields.{Part, parts};
+ghost use Rattle.hb_flow.specs.Fields.{Part, StartsNoField, parts};
 ghost use Rattle.hb_flow.specs.declared.event.Event.{Event};
 ghost use Rattle.hb_flow.specs.declared.lost_event.LostEvent.{LostEvent};
 ghost use Rattle.hb_flow.specs.declared.response.GetFlowsResponse.{GetFlowsResponse};
@@ -45,9 +45,15 @@ pub fn record_is_read()
 {}
 
 /// Bytes that spell fields one after another, each in whatever spelling, divide into these fields.
+/// Of any bytes each part is spelled by its own bytes, and all of these, one after another, are the
+/// bytes up to a rest that starts no field.
 pub fn spelled_fields()
     ensures divide { (ps : List Part) → AllByRecursion (λ p. SpellsField p.raw p.field) ps
         → parts (flat_map (λ p. p.raw) ps) ≡ ps }
+    ensures spelled { (bytes : List ℕ) → AreBytes bytes
+        → AllByRecursion (λ p. SpellsField p.raw p.field) (parts bytes) }
+    ensures rest { (bytes : List ℕ) → (rest : List ℕ) × StartsNoField rest
+        × (bytes ≡ flat_map (λ p. p.raw) (parts bytes) ++ rest) }
 {}
 
 /// Of all the faults that the bytes of an answer, or of lost events, have, the one that is told has

@@ -1,13 +1,12 @@
 -- What reads as a field is what spells one, and the one canonical spelling reads back.
-use Rattle.std.proofs.Common.{◌≡◌, ℕ, ◌+◌, ◌-◌, ◌*◌, ◌/◌, ◌%◌, ◌^◌, ◌<◌, ◌≤◌, ◌⊎◌, Bool, true, false, cond, ltb, eqb, ◌&&◌, List, [], ◌∷◌, ◌++◌, ◌↔◌, length, take, drop, Option, Some, None, refl, sym, ap, subst, ◌∙◌, append_assoc, arith, inl, inr}
+use Rattle.std.proofs.Common.{◌≡◌, ℕ, ◌+◌, ◌-◌, ◌*◌, ◌/◌, ◌%◌, ◌^◌, ◌<◌, ◌≤◌, ◌⊎◌, Bool, true, false, cond, ltb, eqb, ◌&&◌, List, ◌++◌, ◌↔◌, length, take, drop, Option, Some, None, refl, sym, ap, subst, ◌∙◌, append_assoc, arith, inl, inr}
 use Rattle.std.specs.Option.{option_map, option_and_then}
-use Rattle.std.specs.List.{AllByRecursion}
 use Rattle.std.specs.Int.{w32, w64, from_le_bytes}
 use Rattle.std.proofs.lemmas.Bool.{lt-ltb, le-ltb, ltb-true, ltb-false, cases_lt, cases_eq, eq-eqb, ne_eqb, and_parts}
-use Rattle.std.proofs.lemmas.List.{append_cancel_left, take-append-drop, take_at, drop_at, drop-drop, length-take, length-drop, length-append, get_or-drop, get_or-take, get_or_past}
+use Rattle.std.proofs.lemmas.List.{take-append-drop, take_at, drop_at, drop-drop, length-take, length-drop, length-append, get_or-drop, get_or-take, get_or_past}
 use Rattle.std.proofs.lemmas.Nat.{from_le_bytes-to_le_bytes_4, from_le_bytes-to_le_bytes_8}
 use Rattle.hb_wire.specs.Varint.{IsVarint, varint, AreBytes}
-use Rattle.hb_wire.specs.Field.{Content, Varint, Fixed64, Body, Fixed32, Piece, wire_type, SpellsContent, IsNumber, SpellsField, spelled_content, spelled, spelling, ContentFits, PieceFits, LiesAt}
+use Rattle.hb_wire.specs.Field.{Content, Varint, Fixed64, Body, Fixed32, Piece, wire_type, SpellsContent, IsNumber, SpellsField, spelled_content, spelled, ContentFits, PieceFits, LiesAt}
 use Rattle.hb_wire.specs.Reading.{varint_at, fixed64_at, fixed32_at, body_at, content_at, field_at}
 use Rattle.std.proofs.Math.Seq.{take-add}
 use Rattle.hb_wire.proofs.VarintLemmas.{some_is, mapped, varint_reads, varint_front, varint_found, varint_is, varint_nonempty}
@@ -268,18 +267,3 @@ field_exact bytes piece size are = (
       let len : length (take size bytes) ≡ size = omega (arith, length-take size bytes, h.0) in
       ap field_at (sym (take-append-drop size bytes)) ∙ field_reads (take size bytes) (drop size bytes) piece h.1 ∙ ap (λ (k : ℕ). Some (piece, k)) len,
 )
-
--- ---- lists of fields
-
-spelling_some : (p : Piece) (ps : List Piece) → [] ≡ spelling (p ∷ ps) → ⊥
-spelling_some p ps e = absurd (omega (arith, spelled_some p, length-append (spelled p) (spelling ps), ap length e))
-
-pub spelling_one : (ps qs : List Piece) → AllByRecursion PieceFits ps → AllByRecursion PieceFits qs → spelling ps ≡ spelling qs → ps ≡ qs
-spelling_one [] [] fits fits' e = refl
-spelling_one [] (q ∷ qs) fits fits' e = absurd (spelling_some q qs e)
-spelling_one (p ∷ ps) [] fits fits' e = absurd (spelling_some p ps (sym e))
-spelling_one (p ∷ ps) (q ∷ qs) fits fits' e =
-    let first = field_one (spelled p) (spelled q) (spelling ps) (spelling qs) p q (spelled_is p fits.0) (spelled_is q fits'.0) e in
-    let rest : spelling ps ≡ spelling qs = append_cancel_left (spelled p) (spelling ps) (spelling qs) (e ∙ ap (λ (x : List ℕ). x ++ spelling qs) (sym first.0)) in
-    let others : ps ≡ qs = spelling_one ps qs fits.1 fits'.1 rest in
-    ap (λ (x : Piece). x ∷ ps) first.1 ∙ ap (λ (xs : List Piece). q ∷ xs) others

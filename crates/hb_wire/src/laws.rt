@@ -1,9 +1,8 @@
 //! The laws of the wire format.
 
 ghost use Rattle.std.specs.Prelude.{◌≡◌, ℕ, ◌+◌, ◌^◌, ◌<◌, ◌≤◌, ◌↔◌, List, ◌++◌, length, take, Some};
-ghost use Rattle.std.specs.List.{AllByRecursion};
 ghost use Rattle.hb_wire.specs.Varint.{IsVarint, AreBytes, varint};
-ghost use Rattle.hb_wire.specs.Field.{Piece, PieceFits, SpellsField, LiesAt, spelled, spelling};
+ghost use Rattle.hb_wire.specs.Field.{Piece, PieceFits, SpellsField, LiesAt, spelled};
 ghost use Rattle.hb_wire.specs.Reading.{varint_at, field_at};
 
 /// The shortest varint of each number spells it, reads back whatever follows, and is one to ten
@@ -47,10 +46,4 @@ pub fn one_field()
         → field_at bytes ≡ Some (piece, size) → PieceFits piece }
     ensures lies { (bytes : List ℕ) (piece : Piece) (size : ℕ) → field_at bytes ≡ Some (piece, size)
         → LiesAt bytes size piece.content }
-{}
-
-/// Different lists of fields have different canonical spellings.
-pub fn one_list_of_fields()
-    ensures one { (ps qs : List Piece) → AllByRecursion PieceFits ps → AllByRecursion PieceFits qs
-        → spelling ps ≡ spelling qs → ps ≡ qs }
 {}

@@ -17,7 +17,7 @@ mod writing;
 
 pub use field::Field;
 pub use fields::next_field;
-pub use laws::{canonical_field, one_field, one_list_of_fields, one_varint, shortest_varint};
+pub use laws::{canonical_field, one_field, one_varint, shortest_varint};
 pub use malformed::Malformed;
 pub use no_memory::NoMemory;
 pub use seq::Seq;

@@ -35,10 +35,8 @@ pub fn write_varint(out: &mut Vec<u8>, value: u64) -> Result<(), NoMemory>
     Ok(())
 }
 
-/// Writes the tag of a field: its number and the wire type `kind`.
+/// Writes the tag of a field: the shortest varint of 8 times its number and its wire type `kind`.
 pub fn write_tag(out: &mut Vec<u8>, number: u32, kind: u8) -> Result<(), NoMemory>
-    requires number { number < 2 ^ 29 }
-    requires kind { kind < 8 }
     ensures ok { OnOk result (out.new.items ≡ out.old.items ++ varint (8 * number + kind)) }
     ensures err { OnErr result (out.new.items ≡ out.old.items) }
 {

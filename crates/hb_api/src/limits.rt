@@ -1,0 +1,4 @@
+//! The limits of the calls.
+
+/// The bytes of a node's name, at most.
+pub const LONGEST_NAME: usize = 63;
