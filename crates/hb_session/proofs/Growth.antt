@@ -19,7 +19,7 @@ use Rattle.hb_flow.proofs.Joining.{Found, Nothing, read_as}
 use Rattle.hb_flow.proofs.NotKnown.{part_of, no_body, no_member}
 use Rattle.hb_session.specs.Events.{sound_event, event_of_record, lost_event}
 use Rattle.hb_session.specs.Replies.{FitsFrame, response_for}
-use Rattle.hb_session.proofs.Sizes.{response_length}
+use Rattle.hb_flow.proofs.Sizes.{response_length}
 
 -- ---- the fields of bytes are no longer than these
 

@@ -15,5 +15,12 @@ pub mod Grows
 pub mod Sessions
 pub mod Opened
 pub mod Turned
-pub mod Sizes
 pub mod Growth
+pub mod Links
+pub mod Got
+pub mod WholeOnce
+pub mod WholeEvents
+pub mod WholeFlows
+pub mod WholeFronts
+pub mod WholeBacks
+pub mod WholeLaws

@@ -13,7 +13,7 @@ use Rattle.hb_edge.specs.Link.{Held}
 use Rattle.hb_session.specs.declared.turn.Turn.{Turn}
 use Rattle.hb_session.specs.declared.turn.Turn.TheVariants as turns
 use Rattle.hb_session.specs.Replies.{Opening, owed}
-use Rattle.hb_session.specs.Sessions.{Session, SessionStandsFor, added, left, HaveTurned, HasDone, IsWhole, ended_by}
+use Rattle.hb_session.specs.Sessions.{Session, SessionStandsFor, added, left, HaveTurned, HasDone, IsWhole, IsWritten, ended_by}
 use Rattle.hb_session.proofs.Looked.{none_added}
 
 -- what a link holds after it took these bytes
@@ -157,6 +157,12 @@ pub goes_moving : (answer : Turn) (w v n : ℕ) → GoesOn answer → (answer �
 goes_moving answer w v n (inl e) more idle calm = let some = more e in omega (arith, some)
 goes_moving answer w v n (inr e) more idle calm = absurd (calm (idle e))
 
+-- no write failed
+pub goes_unfailed : {A R : Type 0} (answer : Turn) → GoesOn answer → A ⊎ ((answer ≡ turns.LinkFault) × R) → A
+goes_unfailed answer on (inl is) = is
+goes_unfailed answer (inl more) (inr failed) = absurd (let both : turns.More ≡ turns.LinkFault = sym more ∙ failed.0 in cc)
+goes_unfailed answer (inr idle) (inr failed) = absurd (let both : turns.Idle ≡ turns.LinkFault = sym idle ∙ failed.0 in cc)
+
 -- ---- what the link is afterwards
 
 -- writes of pieces, one after another
@@ -164,7 +170,7 @@ abbrev pub AreWrites : {A : Type 0} → (A → List ℕ → A) → A → A → T
 AreWrites step a b = (pieces : List (List ℕ)) × (b ≡ fold step a pieces)
 
 -- and one more, or none
-pub writes_more : {A : Type 0} (step : A → List ℕ → A) (a b c : A) (piece : List ℕ) → AreWrites step a b → (c ≡ b) ⊎ (c ≡ step b piece) → AreWrites step a c
+pub writes_more : {A : Type 0} (step : A → List ℕ → A) (a b c : A) (piece : List ℕ) → AreWrites step a b → IsWritten step piece b c → AreWrites step a c
 writes_more step a b c piece are (inl same) = (are.0, same ∙ are.1)
 writes_more step a b c piece are (inr wrote) = (are.0 ++ piece ∷ [], wrote ∙ ap (λ x. step x piece) are.1 ∙ sym (fold-append step a are.0 (piece ∷ [])))
 

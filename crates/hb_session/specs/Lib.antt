@@ -1,3 +1,4 @@
+pub mod Window
 pub mod Events
 pub mod Marks
 pub mod Forward
@@ -6,3 +7,4 @@ pub mod Replies
 pub mod Steps
 pub mod Stands
 pub mod Sessions
+pub mod Whole

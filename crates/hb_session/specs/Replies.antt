@@ -10,6 +10,7 @@ use Rattle.hb_api.specs.declared.request.GetFlowsRequest.{GetFlowsRequest}
 use Rattle.hb_flow.specs.Messages.{response_bytes}
 use Rattle.hb_frame.specs.Frames.{frame, longest_body}
 use Rattle.hb_session.specs.declared.selection.Selection.{Selection}
+use Rattle.hb_session.specs.Window.{window_start}
 use Rattle.hb_session.specs.Forward.{forward, forward_has_ended}
 use Rattle.hb_session.specs.Backward.{backward, backward_has_ended}
 
@@ -26,7 +27,7 @@ pub record Opening : Type 0 where
 
 -- the window of a ring of this capacity at a top: the last `cap` positions below it, or all of them
 abbrev pub opened : Selection → List ℕ → ℕ → ℕ → Opening
-opened selection name top cap = record { selection = selection; name = name; low = top - min top cap; size = min top cap }
+opened selection name top cap = record { selection = selection; name = name; low = window_start top cap; size = min top cap }
 
 -- the last events of the window are asked for: it is read backwards
 abbrev pub is_backward : Selection → Bool

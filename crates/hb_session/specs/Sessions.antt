@@ -43,6 +43,10 @@ AreFoundAt log cap old new = All (λ look. IsFoundAt log cap look.position look.
 abbrev pub gained : ReplyState → ReplyState → List ℕ
 gained old new = take (length old.waiting - length new.waiting) old.waiting
 
+-- a link is as it was, or as a write of this piece leaves it
+abbrev pub IsWritten : {A : Type 0} → (A → List ℕ → A) → List ℕ → A → A → Type 0
+IsWritten write_after piece old new = (new ≡ old) ⊎ (new ≡ write_after old piece)
+
 -- The reply has ended, and all of it was taken.
 abbrev pub IsWhole : Opening → List LookMade → List ℕ → Type 0
 IsWhole o looks taken = (has_ended o looks ≡ true) × (taken ≡ owed o looks)

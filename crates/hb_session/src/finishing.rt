@@ -3,6 +3,7 @@ ghost use Rattle.std.specs.Prelude.{◌≡◌, ◌≢◌, ◌⊎◌, ◌↔◌, 
 ghost use Rattle.std.specs.Option.{ForSome};
 ghost use Rattle.hb_edge.specs.Causes.{Rose};
 ghost use Rattle.std.specs.List.{All, fold};
+ghost use Rattle.hb_look.specs.Limits.{most_records};
 ghost use Rattle.hb_look.specs.Looks.{LookMade, after};
 ghost use Rattle.hb_look.specs.Reader.{IsLater, ReaderStandsFor};
 ghost use Rattle.hb_session.specs.Replies.{owed};
@@ -52,7 +53,7 @@ pub fn finish<R: Look, L: Link>(
         (looks ++ added (R.reader reader.old).looks (R.reader reader.new).looks))) }
     ensures causes { session.old.answer ≡ None
         → (result.0 ≡ Turn.LinkFault → Rose (L.faults link.old) (L.faults link.new))
-        × (result.0 ≡ Turn.Spent → 2 ^ 62 ≤ length (R.reader reader.new).looks)
+        × (result.0 ≡ Turn.Spent → most_records ≤ length (R.reader reader.new).looks)
         × (result.0 ≡ Turn.Idle → Rose (L.write_waits link.old) (L.write_waits link.new)) }
     ensures counts { (1 ≤ result.1)
         × (min (length (added (R.reader reader.old).looks (R.reader reader.new).looks)) (2 ^ 64 - 1)
@@ -80,12 +81,13 @@ pub fn finish<R: Look, L: Link>(
         × (R.longest reader.new ≡ R.longest reader.old) }
     ensures fixed { R.fixed reader.new ≡ R.fixed reader.old }
     ensures later_link { (L.faults link.old ≤ L.faults link.new)
-        × (L.write_waits link.old ≤ L.write_waits link.new) }
-    ensures link { ForSome (L.held link.old) (λ _. L.starved link.new ≡ false
-        → (pieces : List (List ℕ)) × (link.new ≡ fold L.write_after link.old pieces)) }
-    ensures fed { L.starved link.new ≡ false → L.starved link.old ≡ false }
+        × (L.write_waits link.old ≤ L.write_waits link.new)
+        × (L.refusals link.old ≤ L.refusals link.new) }
+    ensures link { ForSome (L.held link.old) (λ _.
+        ((pieces : List (List ℕ)) × (link.new ≡ fold L.write_after link.old pieces))
+        ⊎ ((result.0 ≡ Turn.LinkFault) × Rose (L.refusals link.old) (L.refusals link.new))) }
     ensures fixed_link { (L.key link.new ≡ L.key link.old)
-        × (L.lender link.new ≡ L.lender link.old) }
+        × (L.fixed link.new ≡ L.fixed link.old) }
 {
     let mut turns: u64 = 0;
     loop {
@@ -95,6 +97,6 @@ pub fn finish<R: Look, L: Link>(
             return (answer, turns);
         }
         // What waits fits 64 bits: so the loop ends.
-        session.waits();
+        session.waiting();
     }
 }

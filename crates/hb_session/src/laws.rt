@@ -1,5 +1,7 @@
 //! The laws of what a client is owed.
 ghost use Rattle.std.specs.Prelude.{◌≡◌, ◌≤◌, ℕ, List, ◌++◌, length, take, IfSome};
+ghost use Rattle.hb_api.specs.Limits.{longest_name};
+ghost use Rattle.hb_look.specs.Limits.{longest_record};
 ghost use Rattle.hb_look.specs.Looks.{LookMade};
 ghost use Rattle.hb_session.specs.Events.{event_of_record, lost_event};
 ghost use Rattle.hb_session.specs.Replies.{Opening, FitsFrame, owed, AreMade};
@@ -14,8 +16,8 @@ pub fn owed_only_grows()
 /// Each response of a session fits a frame: that for the event of a record, however it is spelled,
 /// and that for a stretch. So no event is left out for its size.
 pub fn responses_fit()
-    ensures read { (name bytes : List ℕ) → length name ≤ 63 → length bytes ≤ 65024
-        → IfSome (event_of_record bytes) (FitsFrame name) }
-    ensures lost { (name : List ℕ) (count moment : ℕ) → length name ≤ 63
+    ensures read { (name bytes : List ℕ) → length name ≤ longest_name
+        → length bytes ≤ longest_record → IfSome (event_of_record bytes) (FitsFrame name) }
+    ensures lost { (name : List ℕ) (count moment : ℕ) → length name ≤ longest_name
         → FitsFrame name (lost_event count moment) }
 {}

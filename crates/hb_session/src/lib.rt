@@ -15,7 +15,10 @@ mod loss;
 mod reply;
 mod selection;
 mod session;
+#[cfg(test)]
+mod tests;
 mod turn;
+mod whole;
 mod writer;
 
 pub use counts::Counts;
@@ -25,3 +28,4 @@ pub use loss::Loss;
 pub use selection::Selection;
 pub use session::NodeSession;
 pub use turn::{OpenFault, Turn};
+pub use whole::{first_of_window, last_of_window, one_reply, reply_of, whole_window};

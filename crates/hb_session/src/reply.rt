@@ -1,5 +1,7 @@
 //! The reply of a node as it grows, look by look.
 ghost use Rattle.std.specs.Prelude.{◌≡◌, ℕ, List, ◌∷◌, ◌+◌, ◌^◌, ◌<◌, ◌≤◌, [], ◌++◌, length, drop, None, Some, false, IfOk, OnOk, IfSome};
+ghost use Rattle.hb_api.specs.Limits.{longest_name};
+ghost use Rattle.hb_look.specs.Limits.{longest_record, most_records};
 ghost use Rattle.hb_session.specs.Replies.{Opening, is_backward, FitsFrame};
 ghost use Rattle.hb_session.specs.Events.{event_of_record};
 ghost use Rattle.hb_session.specs.Steps.{ReplyState, IsReady, started, next_place, is_done, with_event, with_loss, ended_with, forward_end, forward_read, forward_gone, release, backward_read, backward_gone, after_read, after_gone, given_forward, skipped_forward, read_forward, held_with, kept_backward};
@@ -35,6 +37,8 @@ pub(crate) struct Reply {
 
 impl Model for Reply {
     ghost use Rattle.std.specs.Prelude.{ℕ, ◌+◌, ◌^◌, ◌<◌, ◌≤◌, length, drop, reverse, IfSome};
+    ghost use Rattle.hb_api.specs.Limits.{longest_name};
+    ghost use Rattle.hb_look.specs.Limits.{most_records};
     ghost use Rattle.hb_session.specs.Steps.{ReplyState, loss_count};
 
     ghost Value = { ReplyState };
@@ -50,11 +54,11 @@ impl Model for Reply {
       ended = r.ended;
     } };
 
-    ghost invariant = { λ r. (r.low + r.size ≤ 2 ^ 62) × (r.passed ≤ r.size)
+    ghost invariant = { λ r. (r.low + r.size ≤ most_records) × (r.passed ≤ r.size)
         × (r.flows ≤ r.passed) × (loss_count r.loss ≤ r.passed)
         × (r.counts.given + r.counts.skipped + r.counts.lost ≤ r.passed)
         × (r.taken ≤ length r.waiting.items) × (length r.waiting.items < 2 ^ 64)
-        × (length r.writer ≤ 63) };
+        × (length r.writer ≤ longest_name) };
 }
 
 impl Reply {
@@ -66,8 +70,8 @@ impl Reply {
         low: u64,
         size: u64,
     ) -> Result<Reply, NoMemory>
-        requires window { low + size ≤ 2 ^ 62 }
-        requires name { length name.now ≤ 63 }
+        requires window { low + size ≤ most_records }
+        requires name { length name.now ≤ longest_name }
         ensures ok { IfOk result (λ reply. reply ≡ started
             (record { selection = selection; name = name.now; low = low; size = size })) }
     {
@@ -133,7 +137,7 @@ impl Reply {
     pub(crate) fn place(&self) -> u64
         requires going { self.now.passed < self.now.opening.size }
         ensures place { result ≡ next_place self.now }
-        ensures bound { result ≤ 2 ^ 62 }
+        ensures bound { result ≤ most_records }
     {
         if self.selection.is_backward() {
             self.low + self.size - 1 - self.passed
@@ -372,7 +376,7 @@ impl Reply {
     #[tactic(auto, using(crate::proofs::Steps::read_stands, crate::proofs::Ready::read_ready, crate::proofs::Growth::read_fits))]
     pub(crate) fn read(&mut self, bytes: &[u8]) -> Result<(), NoMemory>
         requires going { (self.old.ended ≡ false) × (self.old.passed < self.old.opening.size) }
-        requires size { length bytes.now ≤ 65024 }
+        requires size { length bytes.now ≤ longest_record }
         ensures stands { OnOk result ((looks : List LookMade) (taken : List ℕ) (moment : ℕ)
             → ReplyStandsFor self.old looks taken
             → ReplyStandsFor self.new

@@ -3,26 +3,22 @@ ghost use Rattle.std.specs.Prelude.{◌≡◌, ◌≢◌, ◌↔◌, ◌⊎◌, 
 ghost use Rattle.std.specs.Option.{ForSome};
 ghost use Rattle.hb_edge.specs.Causes.{Rose};
 ghost use Rattle.std.specs.List.{All};
+ghost use Rattle.hb_api.specs.Limits.{longest_name};
+ghost use Rattle.hb_look.specs.Limits.{largest_capacity, longest_record, most_records};
 ghost use Rattle.hb_look.specs.Looks.{LookMade, after};
 ghost use Rattle.hb_look.specs.Reader.{IsLater, HasCause, ReaderStandsFor};
 ghost use Rattle.hb_session.specs.Replies.{opened, selection_of, has_ended, owed, AreMadeAfter};
 ghost use Rattle.hb_session.specs.Steps.{ReplyState, IsReady};
-ghost use Rattle.hb_session.specs.Sessions.{added, gained, left, ended_by, IsListed, IsNearer, AreFoundAt, IsWhole, SessionStandsFor};
+ghost use Rattle.hb_session.specs.Sessions.{added, gained, left, ended_by, IsListed, IsNearer, IsWritten, AreFoundAt, IsWhole, SessionStandsFor};
 ghost use Rattle.hb_session.specs.Stands.{ReplyStandsFor};
 
 use crate::reply::Reply;
 use crate::{Counts, OpenFault, Selection, Turn};
 use hb_api::GetFlowsRequest;
 use hb_edge::{Link, Moved};
-use hb_look::{Look, Looked, Record};
+use hb_look::{LONGEST_RECORD, Look, Looked, MOST_RECORDS, Record};
 use std::alloc::Global;
 use std::marker::Model;
-
-/// The number of looks after which a reader may make no more.
-const MOST_LOOKS: u64 = 1 << 62;
-
-/// The most bytes that a record of any ring has.
-const LONGEST_RECORD: usize = 65_024;
 
 /// One reply of a node to one client.
 #[derive(Drop)]
@@ -35,7 +31,8 @@ pub struct NodeSession {
 }
 
 impl Model for NodeSession {
-    ghost use Rattle.std.specs.Prelude.{◌≡◌, ℕ, ◌+◌, ◌^◌, ◌≤◌, Option, None};
+    ghost use Rattle.std.specs.Prelude.{◌≡◌, ℕ, ◌+◌, ◌≤◌, Option, None};
+    ghost use Rattle.hb_look.specs.Limits.{largest_capacity, longest_record, most_records};
     ghost use Rattle.hb_session.specs.Steps.{IsReady};
     ghost use Rattle.hb_session.specs.Sessions.{Session, IsEnding};
 
@@ -48,8 +45,9 @@ impl Model for NodeSession {
       answer = s.answer;
     } };
 
-    ghost invariant = { λ s. (s.buffer.room ≡ 65024) × (s.reply.opening.size ≤ 65535)
-        × (s.reply.opening.low + s.reply.opening.size ≤ 2 ^ 62)
+    ghost invariant = { λ s. (s.buffer.room ≡ longest_record)
+        × (s.reply.opening.size ≤ largest_capacity)
+        × (s.reply.opening.low + s.reply.opening.size ≤ most_records)
         × (s.answer ≡ None → IsReady s.reply) × IsEnding s.answer };
 }
 
@@ -64,9 +62,9 @@ impl NodeSession {
         top: u64,
         cap: u64,
     ) -> Result<NodeSession, OpenFault>
-        requires top { top ≤ 2 ^ 62 }
-        requires cap { cap ≤ 65535 }
-        requires name { length name.now ≤ 63 }
+        requires top { top ≤ most_records }
+        requires cap { cap ≤ largest_capacity }
+        requires name { length name.now ≤ longest_name }
         ensures opening { IfOk result (λ session. session.reply.opening
             ≡ opened (selection_of request.now) name.now top cap) }
         ensures stands { IfOk result (λ session. SessionStandsFor session [] []) }
@@ -135,13 +133,14 @@ impl NodeSession {
         ensures link_fault { self.old.answer ≡ None → result ≡ Turn.LinkFault
             → Rose (L.faults link.old) (L.faults link.new) }
         ensures spent { self.old.answer ≡ None → (result ≡ Turn.Spent)
-            ↔ ((length (R.reader reader.old).looks ≡ 2 ^ 62) × (self.old.reply.waiting ≡ [])) }
+            ↔ ((length (R.reader reader.old).looks ≡ most_records)
+            × (self.old.reply.waiting ≡ [])) }
         ensures no_memory { self.old.answer ≡ None → result ≡ Turn.NoMemory
             → self.old.reply.waiting ≡ [] }
         ensures ended { self.old.answer ≡ None → self.new.answer ≡ ended_by result }
         ensures goes_on { (result ≡ Turn.More) ⊎ (result ≡ Turn.Idle) → self.old.answer ≡ None }
         ensures nearer { result ≡ Turn.More → IsNearer self.old self.new }
-        ensures window { self.new.reply.opening.size ≤ 65535 }
+        ensures window { self.new.reply.opening.size ≤ largest_capacity }
         ensures spends { (length (added (R.reader reader.old).looks (R.reader reader.new).looks)
             ≤ left self.old)
             × (result ≢ Turn.NoMemory → left self.new
@@ -166,15 +165,15 @@ impl NodeSession {
         ensures limits { (R.capacity reader.new ≡ R.capacity reader.old)
             × (R.longest reader.new ≡ R.longest reader.old) }
         ensures fixed { R.fixed reader.new ≡ R.fixed reader.old }
-        ensures writes { ForSome (L.held link.old) (λ _. L.starved link.new ≡ false
-            → (link.new ≡ link.old)
-            ⊎ (link.new ≡ L.write_after link.old self.old.reply.waiting)) }
-        ensures fed { L.starved link.new ≡ false → L.starved link.old ≡ false }
+        ensures writes { ForSome (L.held link.old) (λ _.
+            IsWritten L.write_after self.old.reply.waiting link.old link.new
+            ⊎ ((result ≡ Turn.LinkFault) × Rose (L.refusals link.old) (L.refusals link.new))) }
         ensures later_link { (L.faults link.old ≤ L.faults link.new)
             × (L.read_waits link.old ≤ L.read_waits link.new)
-            × (L.write_waits link.old ≤ L.write_waits link.new) }
+            × (L.write_waits link.old ≤ L.write_waits link.new)
+            × (L.refusals link.old ≤ L.refusals link.new) }
         ensures fixed_link { (L.key link.new ≡ L.key link.old)
-            × (L.lender link.new ≡ L.lender link.old) }
+            × (L.fixed link.new ≡ L.fixed link.old) }
     {
         if let Some(answer) = self.answer {
             return answer;
@@ -194,10 +193,10 @@ impl NodeSession {
     }
 
     /// How many bytes of the reply wait to be taken.
-    pub fn waits(&self) -> usize
+    pub fn waiting(&self) -> u64
         ensures value { result ≡ length self.now.reply.waiting }
     {
-        self.reply.waiting().len()
+        self.reply.waiting().len() as u64
     }
 
     /// How the window was read so far.
@@ -216,14 +215,15 @@ impl NodeSession {
             (taken ++ gained self.old.reply self.new.reply) }
         ensures told { ForSome (L.held link.old) (λ h. L.held link.new
             ≡ Some (record h { taken = h.taken ++ gained self.old.reply self.new.reply })) }
-        ensures leaves { ForSome (L.held link.old) (λ _. L.starved link.new ≡ false
-            → link.new ≡ L.write_after link.old self.old.reply.waiting) }
-        ensures fed { L.starved link.new ≡ false → L.starved link.old ≡ false }
+        ensures leaves { ForSome (L.held link.old) (λ _.
+            (link.new ≡ L.write_after link.old self.old.reply.waiting)
+            ⊎ ((result ≡ Turn.LinkFault) × Rose (L.refusals link.old) (L.refusals link.new))) }
         ensures later { (L.faults link.old ≤ L.faults link.new)
             × (L.read_waits link.old ≤ L.read_waits link.new)
-            × (L.write_waits link.old ≤ L.write_waits link.new) }
+            × (L.write_waits link.old ≤ L.write_waits link.new)
+            × (L.refusals link.old ≤ L.refusals link.new) }
         ensures fixed_link { (L.key link.new ≡ L.key link.old)
-            × (L.lender link.new ≡ L.lender link.old) }
+            × (L.fixed link.new ≡ L.fixed link.old) }
         ensures more { result ≡ Turn.More → 0 < length (gained self.old.reply self.new.reply) }
         ensures done { (result ≡ Turn.Done)
             ↔ ((self.new.reply.ended ≡ true) × (self.new.reply.waiting ≡ [])) }
@@ -268,7 +268,8 @@ impl NodeSession {
             × (result ≢ Turn.NoMemory → left self.new
             + length (added (R.reader reader.old).looks (R.reader reader.new).looks)
             ≤ left self.old) }
-        ensures spent { (result ≡ Turn.Spent) ↔ (length (R.reader reader.old).looks ≡ 2 ^ 62) }
+        ensures spent { (result ≡ Turn.Spent)
+            ↔ (length (R.reader reader.old).looks ≡ most_records) }
         ensures answers { (result ≢ Turn.Idle) × (result ≢ Turn.Done) × (result ≢ Turn.LinkFault) }
         ensures listed { IsListed (R.reader reader.old).looks (R.reader reader.new).looks
             self.old.moment }
@@ -302,14 +303,15 @@ fn send<L: Link>(reply: &mut Reply, link: &mut L) -> (Turn, usize)
     ensures count { result.1 ≡ length (gained reply.old reply.new) }
     ensures told { ForSome (L.held link.old) (λ h. L.held link.new
         ≡ Some (record h { taken = h.taken ++ gained reply.old reply.new })) }
-    ensures leaves { ForSome (L.held link.old) (λ _. L.starved link.new ≡ false
-        → link.new ≡ L.write_after link.old reply.old.waiting) }
-    ensures fed { L.starved link.new ≡ false → L.starved link.old ≡ false }
+    ensures leaves { ForSome (L.held link.old) (λ _.
+        (link.new ≡ L.write_after link.old reply.old.waiting)
+        ⊎ ((result.0 ≡ Turn.LinkFault) × Rose (L.refusals link.old) (L.refusals link.new))) }
     ensures later { (L.faults link.old ≤ L.faults link.new)
         × (L.read_waits link.old ≤ L.read_waits link.new)
-        × (L.write_waits link.old ≤ L.write_waits link.new) }
+        × (L.write_waits link.old ≤ L.write_waits link.new)
+        × (L.refusals link.old ≤ L.refusals link.new) }
     ensures fixed_link { (L.key link.new ≡ L.key link.old)
-        × (L.lender link.new ≡ L.lender link.old) }
+        × (L.fixed link.new ≡ L.fixed link.old) }
     ensures more { result.0 ≡ Turn.More → 0 < result.1 }
     ensures done { (result.0 ≡ Turn.Done)
         ↔ ((reply.new.ended ≡ true) × (reply.new.waiting ≡ [])) }
@@ -336,10 +338,10 @@ fn send<L: Link>(reply: &mut Reply, link: &mut L) -> (Turn, usize)
 #[tactic(auto, using(crate::proofs::Looked::added_made, crate::proofs::Looked::none_added, crate::proofs::Looked::added_one, crate::proofs::Looked::unmoved_stands))]
 fn look<R: Look>(reply: &mut Reply, buffer: &mut Record, reader: &mut R, moment: u64) -> Turn
     requires going { (reply.old.ended ≡ false) × (reply.old.passed < reply.old.opening.size)
-        × (reply.old.opening.low + reply.old.opening.size ≤ 2 ^ 62) }
+        × (reply.old.opening.low + reply.old.opening.size ≤ most_records) }
     requires seen { reply.old.opening.low + reply.old.opening.size
         ≤ (R.reader reader.old).finished.count }
-    requires room { buffer.old.room ≡ 65024 }
+    requires room { buffer.old.room ≡ longest_record }
     ensures stands { result ≢ Turn.NoMemory → (looks : List LookMade) (taken : List ℕ)
         → ReplyStandsFor reply.old looks taken → ReplyStandsFor reply.new
         (looks ++ added (R.reader reader.old).looks (R.reader reader.new).looks) taken }
@@ -355,7 +357,7 @@ fn look<R: Look>(reply: &mut Reply, buffer: &mut Record, reader: &mut R, moment:
         × (reply.new.passed ≤ reply.new.opening.size) }
     ensures one { result ≡ Turn.More
         → length (added (R.reader reader.old).looks (R.reader reader.new).looks) ≡ 1 }
-    ensures spent { (result ≡ Turn.Spent) ↔ (length (R.reader reader.old).looks ≡ 2 ^ 62) }
+    ensures spent { (result ≡ Turn.Spent) ↔ (length (R.reader reader.old).looks ≡ most_records) }
     ensures unmoved { result ≡ Turn.Spent → (reply.new ≡ reply.old) × (reader.new ≡ reader.old)
         × (added (R.reader reader.old).looks (R.reader reader.new).looks ≡ []) }
     ensures answers { (result ≢ Turn.Idle) × (result ≢ Turn.Done) × (result ≢ Turn.LinkFault) }
@@ -374,7 +376,7 @@ fn look<R: Look>(reply: &mut Reply, buffer: &mut Record, reader: &mut R, moment:
     ensures opening { reply.new.opening ≡ reply.old.opening }
     ensures room { buffer.new.room ≡ buffer.old.room }
 {
-    if reader.looked() == MOST_LOOKS {
+    if reader.looked() == MOST_RECORDS {
         return Turn::Spent;
     }
     // Its bounds say that each record fits the buffer.

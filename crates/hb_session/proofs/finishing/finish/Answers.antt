@@ -1,4 +1,4 @@
-use Rattle.std.proofs.Common.{◌≡◌, ◌≢◌, ℕ, ◌+◌, ◌≤◌, List, [], ◌++◌, length, None, true, false, refl, sym, ap, ◌∙◌, inl, arith, max, subst, ◌<◌}
+use Rattle.std.proofs.Common.{◌≡◌, ◌≢◌, ℕ, ◌+◌, ◌≤◌, List, [], ◌++◌, length, None, true, false, refl, sym, ap, ◌∙◌, inl, inr, arith, max, subst, ◌<◌}
 use Rattle.std.proofs.lemmas.List.{length-append}
 use Rattle.hb_edge.specs.Causes.{Rose}
 use Rattle.std.proofs.lemmas.List.Elements.{All-weaker}
@@ -9,7 +9,7 @@ use Rattle.hb_session.specs.declared.turn.Turn.{Turn}
 use Rattle.hb_session.specs.declared.turn.Turn.TheVariants as turns
 use Rattle.hb_session.specs.Replies.{Opening}
 use Rattle.hb_session.specs.Sessions.{AreFoundAt, Session, HaveTurned, added, gained}
-use Rattle.hb_session.proofs.Turned.{not_turned, turned_more, turning_more, taken_both, rose_on, done_more, which, few_turns, GoesOn, goes, goes_remembering, goes_open, goes_moving, later_same, later_both, all_none, all_added, counted_more, writes_more}
+use Rattle.hb_session.proofs.Turned.{not_turned, turned_more, turning_more, taken_both, rose_on, done_more, which, few_turns, GoesOn, goes, goes_remembering, goes_open, goes_moving, goes_unfailed, later_same, later_both, all_none, all_added, counted_more, writes_more}
 use Rattle.hb_session.proofs.Looked.{none_added}
 use Rattle.hb_session.proofs.Sessions.{no_answer}
 use Rattle.hb_session.proofs.finishing.finish.Goals as goal
@@ -27,7 +27,7 @@ loop-answer-init g c =
       refl,
       refl,
       refl,
-      λ e. e,
+      omega arith,
       refl,
       refl,
       λ answer e. (refl, refl, refl, refl),
@@ -37,7 +37,7 @@ loop-answer-init g c =
       λ log tells. all_none (λ look. IsFoundAt log (g.R.Look.capacity c.args.reader.now) look.position look.found) l0,
       λ log tells stands. stands,
       omega (arith, ap length (none_added l0 l0 refl)),
-      λ h held fed. ([], refl),
+      λ h held. ([], refl),
     )
 
 pub returns-then-not-goes_on-clause-turned : goal.returns-then-not-goes_on-clause-turned
@@ -119,7 +119,7 @@ loop-answer-preserved g c =
       told.limits.0 ∙ inv.7,
       told.limits.1 ∙ inv.8,
       told.fixed ∙ inv.9,
-      λ e. inv.10 (told.fed e),
+      omega (arith, inv.10, told.later_link.3),
       told.fixed_link.0 ∙ inv.11,
       told.fixed_link.1 ∙ inv.12,
       λ ended e. absurd (no_answer (sym none ∙ ap (λ (x : Session). x.answer) (inv.13 ended e).1 ∙ e)),
@@ -133,8 +133,8 @@ loop-answer-preserved g c =
           (told.told_log log (inv.6 log tells)
           (subst (λ (cap : ℕ). ReaderStandsFor log cap (g.R.Look.reader c.loop-answer.reader)) (sym inv.7) (inv.18 log tells stands))),
       counted_more l0 l m c.loop-answer.turns c.saturating_add-turns.result inv.1.turned.listed turn.listed told.listed.1 inv.19 c.saturating_add-turns.ensures,
-      λ h held fed. writes_more g.L.Link.write_after c.args.link.now c.loop-answer.link c.turn-answer.new.link s.reply.waiting (inv.20 h held (told.fed fed))
-          (told.writes (record h { taken = h.taken ++ inv.0 }) (inv.1.told h held) fed),
+      λ h held. writes_more g.L.Link.write_after c.args.link.now c.loop-answer.link c.turn-answer.new.link s.reply.waiting (inv.20 h held)
+          (goes_unfailed answer on (told.writes (record h { taken = h.taken ++ inv.0 }) (inv.1.told h held))),
     )
 
 pub returns-then-not-goes_on-clause-found : goal.returns-then-not-goes_on-clause-found
@@ -148,9 +148,11 @@ returns-then-not-goes_on-clause-found g c log tells =
     (subst (λ (cap : ℕ). AreFoundAt log cap l m) inv.7 (told.found log (inv.6 log tells)))
 
 pub returns-then-not-goes_on-clause-link : goal.returns-then-not-goes_on-clause-link
-returns-then-not-goes_on-clause-link g c h held fed =
+returns-then-not-goes_on-clause-link g c h held =
     let inv = c.loop-answer.invariant in
     let told = c.turn-answer.ensures in
     let s : Session = c.loop-answer.session in
-    writes_more g.L.Link.write_after c.args.link.now c.loop-answer.link c.turn-answer.new.link s.reply.waiting (inv.20 h held (told.fed fed))
-    (told.writes (record h { taken = h.taken ++ inv.0 }) (inv.1.told h held) fed)
+    elim (told.writes (record h { taken = h.taken ++ inv.0 }) (inv.1.told h held)) [
+      | inl written ↦ inl (writes_more g.L.Link.write_after c.args.link.now c.loop-answer.link c.turn-answer.new.link s.reply.waiting (inv.20 h held) written)
+      | inr failed ↦ inr (failed.0, rose_on (g.L.Link.refusals c.args.link.now) (g.L.Link.refusals c.loop-answer.link) (g.L.Link.refusals c.turn-answer.new.link) (g.L.Link.refusals c.turn-answer.new.link) inv.10 (omega arith) failed.1)
+    ]

@@ -1,4 +1,4 @@
-use Rattle.std.proofs.Common.{◌≡◌, None, Some, false, ℕ, min, max, ◌<◌, ◌+◌, ◌-◌, ◌*◌, ◌^◌, ◌≤◌, List, length}
+use Rattle.std.proofs.Common.{◌≡◌, None, Some, ℕ, min, max, ◌<◌, ◌+◌, ◌-◌, ◌*◌, ◌^◌, ◌≤◌, List, length}
 use Rattle.std.specs.List.{All}
 use Rattle.std.specs.Option.{ForSome}
 use Rattle.hb_look.specs.Looks.{after}
@@ -19,8 +19,8 @@ invariant-loop-answer g l = (gained : List ℕ)
     × ((log : List (List ℕ)) → g.R.Look.tells l.fn.reader log → g.R.Look.tells l.reader log)
     × (g.R.Look.capacity l.reader ≡ g.R.Look.capacity l.fn.reader) × (g.R.Look.longest l.reader ≡ g.R.Look.longest l.fn.reader)
     × (g.R.Look.fixed l.reader ≡ g.R.Look.fixed l.fn.reader)
-    × (g.L.Link.starved l.link ≡ false → g.L.Link.starved l.fn.link ≡ false)
-    × (g.L.Link.key l.link ≡ g.L.Link.key l.fn.link) × (g.L.Link.lender l.link ≡ g.L.Link.lender l.fn.link)
+    × (g.L.Link.refusals l.fn.link ≤ g.L.Link.refusals l.link)
+    × (g.L.Link.key l.link ≡ g.L.Link.key l.fn.link) × (g.L.Link.fixed l.link ≡ g.L.Link.fixed l.fn.link)
     × ((answer : Turn) → l.fn.session.answer ≡ Some answer → (l.turns ≡ 0) × (l.session ≡ l.fn.session) × (l.reader ≡ l.fn.reader) × (l.link ≡ l.fn.link))
     × (max l.session.moment l.now ≡ max l.fn.session.moment l.fn.now)
     × All (λ look. look.moment ≡ max l.fn.session.moment l.fn.now) (added (g.R.Look.reader l.fn.reader).looks (g.R.Look.reader l.reader).looks)
@@ -30,7 +30,7 @@ invariant-loop-answer g l = (gained : List ℕ)
     × ((log : List (List ℕ)) → g.R.Look.tells l.fn.reader log → ReaderStandsFor log (g.R.Look.capacity l.fn.reader) (g.R.Look.reader l.fn.reader)
     → ReaderStandsFor log (g.R.Look.capacity l.fn.reader) (g.R.Look.reader l.reader))
     × (min (length (added (g.R.Look.reader l.fn.reader).looks (g.R.Look.reader l.reader).looks)) (2 ^ 64 - 1) ≤ l.turns)
-    × ForSome (g.L.Link.held l.fn.link) (λ _. g.L.Link.starved l.link ≡ false → AreWrites g.L.Link.write_after l.fn.link l.link)
+    × ForSome (g.L.Link.held l.fn.link) (λ _. AreWrites g.L.Link.write_after l.fn.link l.link)
 
 -- positions that are left, then bytes that wait, then the turns for which the link may make it wait
 abbrev pub decreases-loop-answer : goal.decreases-loop-answer

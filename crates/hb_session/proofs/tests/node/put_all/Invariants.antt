@@ -1,0 +1,6 @@
+-- no record that was put is taken back
+use Rattle.std.proofs.Common.{◌≤◌}
+use Rattle.hb_session.proofs.tests.node.put_all.Given as goal
+
+abbrev pub invariant-loop-word : goal.invariant-loop-word
+invariant-loop-word l = l.initial.ring.written ≤ l.ring.written

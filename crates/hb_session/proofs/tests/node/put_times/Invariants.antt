@@ -1,0 +1,6 @@
+-- no record that was put is taken back
+use Rattle.std.proofs.Common.{◌≤◌}
+use Rattle.hb_session.proofs.tests.node.put_times.Given as goal
+
+abbrev pub invariant-loop : goal.invariant-loop
+invariant-loop l = l.initial.ring.written ≤ l.ring.written

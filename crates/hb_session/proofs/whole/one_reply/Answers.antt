@@ -1,0 +1,5 @@
+use Rattle.hb_session.proofs.WholeOnce.{reply_once}
+use Rattle.hb_session.proofs.whole.one_reply.Goals as goal
+
+pub returns : goal.returns
+returns c = record { one = reply_once }
