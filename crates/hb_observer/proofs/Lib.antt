@@ -1,0 +1,3 @@
+-- What is kept of an event, and that it is read again.
+pub mod KeptLemmas
+pub mod Windows
