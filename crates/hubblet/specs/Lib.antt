@@ -1,9 +1,3 @@
 pub mod Observe
-pub mod Recording
-pub mod Node
-pub mod Words
 pub mod Lines
-pub mod Limits
-pub mod Reading
-pub mod Ingest
-pub mod Refusal
+pub mod Filling

@@ -1,8 +1,17 @@
--- The exit code of each status, and its line on standard error.
+-- The status of a fault, and of each status the exit code and the line on standard error.
 use Rattle.std.specs.Prelude.{ℕ, List, [], ◌++◌, codes}
 use Rattle.std.specs.Fmt.{decimal}
+use Rattle.hb_files.specs.declared.fault.FileFault.{FileFault}
+use Rattle.hb_files.specs.declared.fault.FileFault.TheVariants as fault
 use Rattle.hubblet.specs.declared.status.Status.{Status}
 use Rattle.hubblet.specs.declared.status.Status.TheVariants.{Done, BadWords, ReadFault, WriteFault, BadRecord, NoMemory, TooLarge}
+
+-- what a fault of the file of this name ends in
+abbrev pub status_of : List ℕ → FileFault → Status
+status_of file fault.ReadFailed = ReadFault file
+status_of file fault.TooLarge = TooLarge file
+status_of file (fault.BadRecord at) = BadRecord file at
+status_of file fault.NoMemory = NoMemory
 
 abbrev pub code_of : Status → ℕ
 code_of Done = 0

@@ -2,38 +2,45 @@
 use Rattle.std.specs.Prelude.{◌≡◌, ◌⊎◌, ℕ, ◌<◌, ◌≤◌, List, ◌++◌, length, take, Option, Some}
 use Rattle.std.specs.Option.{ForSome}
 use Rattle.hb_edge.specs.Shelf.{Files}
-use Rattle.hb_wire.specs.Varint.{AreBytes}
+use Rattle.hb_files.specs.Files.{IsWhole, largest_file}
+use Rattle.hb_files.specs.Faults.{IsFaultOf}
+use Rattle.hb_files.specs.declared.fault.FileFault.{FileFault}
+use Rattle.hb_files.specs.declared.fault.FileFault.TheVariants as fault
 use Rattle.hb_flow.specs.declared.response.GetFlowsResponse.{GetFlowsResponse}
+use Rattle.hb_observer.specs.Kept.{log_of}
+use Rattle.hb_recording.specs.Recording.{Recorded, IsRecordingOf, IsBadRecord, events}
+use Rattle.hb_session.specs.Replies.{Opening, opened, selection_of}
+use Rattle.hb_session.specs.Whole.{IsReply}
+use Rattle.hb_words.specs.declared.job.Observe.{Observe}
 use Rattle.hubblet.specs.declared.status.Status.{Status}
 use Rattle.hubblet.specs.declared.status.Status.TheVariants.{Done, BadWords, ReadFault, WriteFault, BadRecord, NoMemory, TooLarge}
-use Rattle.hubblet.specs.Limits.{largest_file}
-use Rattle.hubblet.specs.Words.{Job}
-use Rattle.hubblet.specs.Recording.{Recorded, IsBadRecord}
-use Rattle.hubblet.specs.Node.{IsOutput}
 
--- the file of this name has these bytes
-abbrev pub Has : Files → List ℕ → List ℕ → Type 0
-Has files name file = files name ≡ Some file
+-- how the session of a job opens, over a ring that was given the events of these responses
+abbrev pub opening : Observe → List GetFlowsResponse → Opening
+opening job responses =
+    opened (selection_of job.request) job.node (length (log_of job.slot (events responses))) job.capacity
 
--- What was read is a recording of these answers, and no larger than a file may be. A shelf that tells
--- has it under this name.
-pub record Holds (told : Option Files) (name : List ℕ) (responses : List GetFlowsResponse) : Type 0 where
+-- the output of a job for a recording of these responses: the whole reply from that ring
+abbrev pub IsOutput : Observe → List GetFlowsResponse → List ℕ → Type 0
+IsOutput job responses output = IsReply (opening job responses) (log_of job.slot (events responses)) output
+
+-- The job's file, as it was read whole, is a recording, and this is the output for it.
+pub record HasOutput (told : Option Files) (job : Observe) (output : List ℕ) : Type 0 where
   pub file : List ℕ
-  pub has : ForSome told (λ files. Has files name file)
-  pub bytes : AreBytes file
-  pub size : length file ≤ largest_file
-  pub recorded : Recorded file responses
-
--- The job's file is a recording, for which this is the output.
-pub record HasOutput (told : Option Files) (job : Job) (output : List ℕ) : Type 0 where
+  pub whole : IsWhole told job.file file
   pub responses : List GetFlowsResponse
-  pub holds : Holds told job.file responses
+  pub recording : IsRecordingOf file responses
   pub output_is : IsOutput job responses output
+
+-- nothing was written, and there was this fault of the job's file
+abbrev pub IsRefused : Observe → Option Files → Type 0 → Option (List ℕ) → Option (List ℕ) → List ℕ → FileFault → Type 0
+IsRefused job told read_failed before after file why =
+    (file ≡ job.file) × (after ≡ before) × IsFaultOf IsBadRecord told file read_failed why
 
 -- What the status says of a job, given the files that the shelf tells of, whether a read and a write
 -- failed in this call, and what the sink held before it and holds after it. Of a shelf or a sink that
 -- does not tell, nothing is said that it would have to tell.
-abbrev pub Observed : Job → Option Files → Type 0 → Type 0 → Option (List ℕ) → Option (List ℕ) → Status → Type 0
+abbrev pub Observed : Observe → Option Files → Type 0 → Type 0 → Option (List ℕ) → Option (List ℕ) → Status → Type 0
 -- the output was written
 Observed job told read_failed write_failed before after Done =
     (output : List ℕ) × HasOutput told job output
@@ -44,13 +51,11 @@ Observed job told read_failed write_failed before after WriteFault =
     × ForSome before (λ held. (count : ℕ) × (after ≡ Some (held ++ take count output)))
 -- nothing was
 Observed job told read_failed write_failed before after (ReadFault file) =
-    (file ≡ job.file) × (after ≡ before) × read_failed
+    IsRefused job told read_failed before after file fault.ReadFailed
 Observed job told read_failed write_failed before after (TooLarge file) =
-    (file ≡ job.file) × (after ≡ before) × ForSome told (λ files. (bytes : List ℕ) × Has files file bytes
-    × (largest_file < length bytes))
+    IsRefused job told read_failed before after file fault.TooLarge
 Observed job told read_failed write_failed before after (BadRecord file at) =
-    (file ≡ job.file) × (after ≡ before) × ForSome told (λ files. (bytes : List ℕ) × Has files file bytes
-    × (length bytes ≤ largest_file) × IsBadRecord bytes at)
+    IsRefused job told read_failed before after file (fault.BadRecord at)
 Observed job told read_failed write_failed before after NoMemory = after ≡ before
 -- this does not come
 Observed job told read_failed write_failed before after BadWords = ⊥

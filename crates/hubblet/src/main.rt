@@ -3,22 +3,15 @@
 //! what each exit status tells of the file and of the output. `main` gives it the system's.
 #![tactic(auto)]
 
+mod filling;
 mod laws;
 mod observe;
-mod reading;
-mod recording;
-mod reply;
 mod status;
 #[cfg(test)]
 mod tests;
-mod words;
-mod writing;
 
 use hb_edge::{FileShelf, RealClock, StdoutSink};
-pub use laws::{
-    first_of_window, job_limits, last_of_window, one_output, one_reading, one_spelling,
-    whole_window,
-};
+pub use laws::window_of_recording;
 pub use observe::run;
 pub use status::Status;
 use std::env;
@@ -32,7 +25,7 @@ fn main(rt: HostRuntime) -> ExitCode {
         Ok(words) => run(
             rt.alloc(),
             &words,
-            &mut FileShelf::new(rt),
+            &mut FileShelf::new(rt.alloc(), rt),
             &mut StdoutSink::new(rt),
             &RealClock::new(rt),
         ),

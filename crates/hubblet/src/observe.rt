@@ -1,24 +1,22 @@
 //! The command `observe`: a recording in, the reply of a node out.
-ghost use Rattle.std.specs.Prelude.{◌≡◌, ◌≤◌, ◌↔◌, ◌⊎◌, ℕ, List, length, map, string_bytes, None, Some, IfOk, IfErr};
+ghost use Rattle.std.specs.Prelude.{◌≡◌, ◌≤◌, ◌↔◌, ℕ, List, length, map, string_bytes, None, Some, IfOk, IfErr};
 ghost use Rattle.hb_edge.specs.Causes.{Rose};
 ghost use Rattle.hb_edge.specs.Shelf.{Files};
-ghost use Rattle.hubblet.specs.Words as spec;
-ghost use Rattle.hb_listring.specs.Log.{StandsFor};
-ghost use Rattle.hubblet.specs.Ingest.{IsAnswered, IsUntaken};
-ghost use Rattle.hubblet.specs.Node.{IsReply, opening};
-ghost use Rattle.hubblet.specs.Observe.{Has, Observed, Completes};
-ghost use Rattle.hubblet.specs.Refusal.{refusal};
+ghost use Rattle.hb_files.specs.Files.{Has};
+ghost use Rattle.hb_files.specs.Faults.{IsFaultOf};
+ghost use Rattle.hb_recording.specs.Recording.{IsBadRecord};
+ghost use Rattle.hb_words.specs.Limits.{IsWithin};
+ghost use Rattle.hb_words.specs.Words.{job};
+ghost use Rattle.hb_words.specs.declared.job.Observe as spec;
+ghost use Rattle.hubblet.specs.Observe.{HasOutput, Observed, Completes};
 
-use crate::reading::{Unread, read_file};
-use crate::recording::{Untaken, ingest};
-use crate::reply::reply_of;
-use crate::status::Status;
-use crate::words::{Job, read_words};
-use crate::writing::write_whole;
-use hb_api::GetFlowsRequest;
+use crate::Status;
+use crate::filling::fill;
 use hb_edge::{Clock, MemLink, Shelf, Sink};
+use hb_files::{FileFault, read_whole, write_whole};
 use hb_listring::{ListEye, ListReader, ListRing};
-use hb_wire::{NoMemory, Text};
+use hb_session::reply_of;
+use hb_words::{Job, Observe, WordsFault, read_words};
 use std::alloc::Global;
 
 /// Runs the command of these words: reads the recording that they name from the shelf, and writes the
@@ -32,18 +30,18 @@ pub fn run<S: Shelf, K: Sink, C: Clock>(
 ) -> Status
     // The words are those of no job.
     ensures bad_words { (result ≡ Status.BadWords)
-        ↔ (spec.job (map string_bytes words.now) ≡ None) }
+        ↔ (job (map string_bytes words.now) ≡ None) }
     ensures untouched { result ≡ Status.BadWords → K.held out.new ≡ K.held out.old }
 
     // What each status tells of a job.
-    ensures ends { (j : spec.Job) → spec.job (map string_bytes words.now) ≡ Some j
+    ensures ends { (j : spec.Observe) → job (map string_bytes words.now) ≡ Some (Job.Observe j)
         → Observed j (S.files shelf.old)
         (Rose (S.faults shelf.old) (S.faults shelf.new))
         (Rose (K.faults out.old) (K.faults out.new)) (K.held out.old) (K.held out.new) result }
 
     // What is to come of a file that is told, where no read failed.
-    ensures completes { (j : spec.Job) (file : List ℕ) (files : Files)
-        → spec.job (map string_bytes words.now) ≡ Some j
+    ensures completes { (j : spec.Observe) (file : List ℕ) (files : Files)
+        → job (map string_bytes words.now) ≡ Some (Job.Observe j)
         → S.files shelf.old ≡ Some files → Has files j.file file
         → (Rose (S.faults shelf.old) (S.faults shelf.new) → ⊥)
         → Completes j.file file (Rose (K.faults out.old) (K.faults out.new)) result }
@@ -52,98 +50,61 @@ pub fn run<S: Shelf, K: Sink, C: Clock>(
     ensures kept { S.files shelf.new ≡ S.files shelf.old }
     ensures later { (S.faults shelf.old ≤ S.faults shelf.new)
         × (K.faults out.old ≤ K.faults out.new) }
-    ensures lent { (S.lender shelf.new ≡ S.lender shelf.old)
-        × (K.lender out.new ≡ K.lender out.old) }
+    ensures fixed { (S.fixed shelf.new ≡ S.fixed shelf.old)
+        × (K.fixed out.new ≡ K.fixed out.old) }
 {
-    match read_words(words) {
-        None => Status::BadWords,
-        Some(job) => observe(alloc, &job, shelf, out),
+    match read_words(alloc, words) {
+        Ok(Job::Observe(job)) => observe(alloc, job, shelf, out),
+        Err(WordsFault::BadWords) => Status::BadWords,
+        Err(WordsFault::NoMemory) => Status::NoMemory,
     }
 }
 
 /// Does the job.
-fn observe<S: Shelf, K: Sink>(alloc: Global, job: &Job<'_>, shelf: &mut S, out: &mut K) -> Status
-    requires limits { spec.IsWithin (spec.view job.now) }
-    ensures ends { Observed (spec.view job.now) (S.files shelf.old)
+fn observe<S: Shelf, K: Sink>(alloc: Global, job: Observe, shelf: &mut S, out: &mut K) -> Status
+    requires limits { IsWithin job }
+    ensures ends { Observed job (S.files shelf.old)
         (Rose (S.faults shelf.old) (S.faults shelf.new))
         (Rose (K.faults out.old) (K.faults out.new)) (K.held out.old) (K.held out.new) result }
-    ensures completes { (file : List ℕ) (files : Files) → S.files shelf.old ≡ Some files
-        → Has files job.now.file.now file
-        → (Rose (S.faults shelf.old) (S.faults shelf.new) → ⊥)
-        → Completes job.now.file.now file (Rose (K.faults out.old) (K.faults out.new)) result }
     ensures kept { S.files shelf.new ≡ S.files shelf.old }
     ensures later { (S.faults shelf.old ≤ S.faults shelf.new)
         × (K.faults out.old ≤ K.faults out.new) }
-    ensures lent { (S.lender shelf.new ≡ S.lender shelf.old)
-        × (K.lender out.new ≡ K.lender out.old) }
+    ensures fixed { (S.fixed shelf.new ≡ S.fixed shelf.old)
+        × (K.fixed out.new ≡ K.fixed out.old) }
 {
-    let file = match read_file(alloc, shelf, job.file) {
-        Ok(file) => file,
-        Err(why) => return refused(alloc, job.file, Refusal::Unread(why)),
-    };
-    let link = match answer(alloc, &file, job) {
-        Ok(link) => link,
-        Err(why) => return refused(alloc, job.file, Refusal::Untaken(why)),
-    };
-    match write_whole(out, link.sent()) {
-        Ok(()) => Status::Done,
-        Err(_) => Status::WriteFault,
+    match answer(alloc, &job, shelf) {
+        Ok(link) => match write_whole(out, link.sent()) {
+            Ok(()) => Status::Done,
+            Err(_) => Status::WriteFault,
+        },
+        Err(fault) => Status::of(job.file, fault),
     }
 }
 
-/// The link that has taken the reply of a node whose ring took the recording.
-fn answer(alloc: Global, file: &[u8], job: &Job<'_>) -> Result<MemLink, Untaken>
-    requires limits { spec.IsWithin (spec.view job.now) }
-    ensures ok { IfOk result (λ link. IsAnswered (spec.view job.now) file.now link.taken) }
-    ensures err { IfErr result (IsUntaken file.now) }
+/// The link that has taken the reply of a node whose ring took the job's file.
+fn answer<S: Shelf>(alloc: Global, job: &Observe, shelf: &mut S) -> Result<MemLink, FileFault>
+    requires limits { IsWithin job.now }
+    ensures ok { IfOk result (λ link. HasOutput (S.files shelf.old) job.now link.taken) }
+    ensures err { IfErr result (IsFaultOf IsBadRecord (S.files shelf.old) job.now.file
+        (Rose (S.faults shelf.old) (S.faults shelf.new))) }
+    ensures kept { S.files shelf.new ≡ S.files shelf.old }
+    ensures later { S.faults shelf.old ≤ S.faults shelf.new }
+    ensures fixed { S.fixed shelf.new ≡ S.fixed shelf.old }
 {
+    let file = read_whole(alloc, shelf, job.file.as_str())?;
     let Ok(mut ring) = ListRing::open(alloc, job.capacity, job.slot) else {
-        return Err(Untaken::NoMemory);
+        return Err(FileFault::NoMemory);
     };
-    match ingest(alloc, file, &mut ring) {
-        Ok(()) => Ok(reply_from(alloc, &ring, job)?),
-        Err(why) => Err(why),
-    }
-}
-
-/// The link that has taken the reply of the node with this ring.
-fn reply_from(alloc: Global, ring: &ListRing, job: &Job<'_>) -> Result<MemLink, NoMemory>
-    requires capacity { ring.now.capacity ≡ job.now.capacity }
-    requires name { length job.now.node.now ≤ 63 }
-    ensures ok { IfOk result (λ link. (log : List (List ℕ)) → StandsFor ring.now log
-        → IsReply (opening (spec.view job.now) (length log)) log link.taken) }
-{
+    fill(alloc, &file, &mut ring, job.slot)?;
     let Ok(mut reader) = ListReader::new(alloc) else {
-        return Err(NoMemory);
+        return Err(FileFault::NoMemory);
     };
     let mut eye = ListEye {
         reader: &mut reader,
-        ring,
+        ring: &ring,
     };
-    let mut request = GetFlowsRequest::new(alloc)?;
-    request.number = job.number;
-    request.first = job.first;
-    reply_of(alloc, &mut eye, &request, job.node)
-}
-
-/// Why nothing was written.
-#[derive(Drop)]
-enum Refusal {
-    Unread(Unread),
-    Untaken(Untaken),
-}
-
-/// The status of a refusal, with the name of the file.
-fn refused(alloc: Global, name: &str, why: Refusal) -> Status
-    ensures { (result ≡ refusal name.now why) ⊎ (result ≡ Status.NoMemory) }
-{
-    let Ok(file) = Text::of(alloc, name) else {
-        return Status::NoMemory;
-    };
-    match why {
-        Refusal::Unread(Unread::Failed) => Status::ReadFault { file },
-        Refusal::Unread(Unread::TooLarge) => Status::TooLarge { file },
-        Refusal::Untaken(Untaken::BadRecord { at }) => Status::BadRecord { file, at },
-        Refusal::Unread(Unread::NoMemory) | Refusal::Untaken(Untaken::NoMemory) => Status::NoMemory,
+    match reply_of(alloc, &mut eye, &job.request, job.node.as_str()) {
+        Ok(link) => Ok(link),
+        Err(_) => Err(FileFault::NoMemory),
     }
 }

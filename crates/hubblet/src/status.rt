@@ -1,6 +1,7 @@
 //! How a command ended.
 ghost use Rattle.std.specs.Prelude.{◌≡◌, ◌++◌, IfOk, string_bytes};
 
+use hb_files::FileFault;
 use hb_wire::{NoMemory, Text};
 use std::alloc::Global;
 
@@ -24,7 +25,19 @@ pub enum Status {
 }
 
 impl Status {
-    ghost use Rattle.hubblet.specs.Lines.{code_of, line_of};
+    ghost use Rattle.hubblet.specs.Lines.{code_of, line_of, status_of};
+
+    /// The status of a command that a fault of the file of this name ended.
+    pub fn of(file: Text, fault: FileFault) -> Status
+        ensures status { result ≡ status_of file fault }
+    {
+        match fault {
+            FileFault::ReadFailed => Status::ReadFault { file },
+            FileFault::TooLarge => Status::TooLarge { file },
+            FileFault::BadRecord { at } => Status::BadRecord { file, at },
+            FileFault::NoMemory => Status::NoMemory,
+        }
+    }
 
     /// The exit code.
     pub fn code(&self) -> u8

@@ -1,6 +1,0 @@
-use Rattle.std.proofs.Common.{arith, ◌∙◌}
-use Rattle.hubblet.proofs.WordsNumbers.{number_read}
-use Rattle.hubblet.proofs.words.number.Goals as goal
-
-pub returns : goal.returns
-returns c = c.ok.ensures.value ∙ number_read c.args.text.now c.parse.result (c.if-starts_with.ensures.byte (omega arith) (omega arith) (λ w o m. m)) c.parse.ensures.value.0
