@@ -38,7 +38,7 @@ place_by o looks false is steps not =
     (omega (arith, at), omega (arith, at, fewer, steps.marks))
 
 -- what is found in the window is the record
-found_got : (log : List (List ℕ)) (cap position : ℕ) (found : Found) → IsFoundAt log cap position found → position < length log → length log ≤ position + cap
+pub found_got : (log : List (List ℕ)) (cap position : ℕ) (found : Found) → IsFoundAt log cap position found → position < length log → length log ≤ position + cap
     → (bytes : List ℕ) × (found ≡ Got bytes) × (slice_get log position ≡ Some bytes)
 found_got log cap position (Got bytes) is below within = (bytes, refl, is.1)
 found_got log cap position (Gone next) is below within = absurd (omega (arith, is.0, within))

@@ -1,10 +1,12 @@
 //! The laws of what a client is owed.
-ghost use Rattle.std.specs.Prelude.{◌≡◌, ◌≤◌, ℕ, List, ◌++◌, length, take, IfSome};
+ghost use Rattle.std.specs.Prelude.{◌≡◌, ◌<◌, ◌≤◌, ℕ, List, ◌++◌, length, take, slice_get, Some, IfSome};
 ghost use Rattle.hb_api.specs.Limits.{longest_name};
 ghost use Rattle.hb_look.specs.Limits.{longest_record};
-ghost use Rattle.hb_look.specs.Looks.{LookMade};
+ghost use Rattle.hb_look.specs.Answers.{IsFoundAt};
+ghost use Rattle.hb_look.specs.Looks.{Found, Got, LookMade};
 ghost use Rattle.hb_session.specs.Events.{event_of_record, lost_event};
 ghost use Rattle.hb_session.specs.Replies.{Opening, FitsFrame, owed, AreMade};
+ghost use Rattle.hb_session.specs.Window.{window_start};
 
 /// Among the looks that a session makes, what is owed only grows: what was owed before some of them
 /// begins what is owed after them.
@@ -20,4 +22,13 @@ pub fn responses_fit()
         → length bytes ≤ longest_record → IfSome (event_of_record bytes) (FitsFrame name) }
     ensures lost { (name : List ℕ) (count moment : ℕ) → length name ≤ longest_name
         → FitsFrame name (lost_event count moment) }
+{}
+
+/// A look at a position of the window of the last `cap` records of a log finds the record that the log
+/// has there.
+pub fn window_is_held()
+    ensures held { (log : List (List ℕ)) (cap position : ℕ) (found : Found)
+        → IsFoundAt log cap position found → window_start (length log) cap ≤ position
+        → position < length log
+        → (bytes : List ℕ) × (found ≡ Got bytes) × (slice_get log position ≡ Some bytes) }
 {}

@@ -23,7 +23,7 @@ mod writer;
 
 pub use counts::Counts;
 pub use finishing::finish;
-pub use laws::{owed_only_grows, responses_fit};
+pub use laws::{owed_only_grows, responses_fit, window_is_held};
 pub use loss::Loss;
 pub use selection::Selection;
 pub use session::NodeSession;
