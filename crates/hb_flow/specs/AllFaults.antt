@@ -12,10 +12,11 @@ Inside = ℕ → ℕ → List ℕ → DecodeFault → Type 0
 
 -- the faults in the content of a field that ends at a place
 abbrev pub InContent : Inside → ℕ → Piece → DecodeFault → Type 0
-InContent inside end field fault = IsSomeAnd (body_in field.content) (λ body. inside field.number (end - length body) body fault)
+InContent inside end field fault =
+    IsSomeAnd (body_in field.content) (λ body. inside field.number (end - length body) body fault)
 
--- the faults of `size` bytes that stand at a place and divide into these parts: those in the parts, and
--- that no field starts where the parts end before the bytes do
+-- the faults of `size` bytes that stand at a place and divide into these parts: those in the
+-- parts, and that no field starts where the parts end before the bytes do
 abbrev pub InParts : Inside → ℕ → ℕ → List Part → DecodeFault → Type 0
 InParts inside place size [] fault = (0 < size) × (fault ≡ Malformed place)
 InParts inside place size (p ∷ ps) fault = InContent inside (place + length p.raw) p.field fault

@@ -74,8 +74,8 @@ last_run [] = None
 last_run (m ∷ ms) = if list_all (λ x. x.0 == m.0) ms then Some (m.0, map (λ x. x.1) (m ∷ ms))
     else last_run ms
 
--- the member that counts: the number of its last occurrence, and the bodies that come after the last
--- occurrence of any other member
+-- the member that counts: the number of its last occurrence, and the bodies that come after the
+-- last occurrence of any other member
 abbrev pub member_bodies : List Part → Option (ℕ × List (List ℕ))
 member_bodies ps = last_run (members ps)
 

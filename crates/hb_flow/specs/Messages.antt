@@ -1,7 +1,7 @@
--- What the bytes of a message read as, number by number, and its one canonical spelling. Of numbers
--- and of texts the last counts, and the bodies of a message are read as one. Of the members of a oneof
--- the last counts, with its bodies after any other. The bytes of fields that are not known are kept,
--- but for those of a Timestamp and of an Int32Value.
+-- What the bytes of a message read as, number by number, and its one canonical spelling. Of
+-- numbers and of texts the last counts, and the bodies of a message are read as one. Of the
+-- members of a oneof the last counts, with its bodies after any other. The bytes of fields that
+-- are not known are kept, but for those of a Timestamp and of an Int32Value.
 use Rattle.std.specs.Prelude.{◌≡◌, ℕ, ℤ, zero, suc, pos, ◌%◌, ◌^◌, ◌<◌, ◌==◌, if◌then◌else◌, List, [], ◌∷◌, ◌++◌, Option, Some, None, false, IfSome, IsUtf8, FitsSigned}
 use Rattle.std.specs.Int.{w32, w64, cast_signed, cast_unsigned}
 use Rattle.std.specs.Option.{option_map}
@@ -143,8 +143,8 @@ abbrev pub member_field : Option ResponseTypes → List Piece
 member_field None = []
 member_field (Some m) = message_field (member_number m) (Some (member_bytes m))
 
--- a GetFlowsResponse's canonical spelling: its fields by ascending number, and then the bytes of those
--- that are not known
+-- a GetFlowsResponse's canonical spelling: its fields by ascending number, and then the bytes of
+-- those that are not known
 unfoldable pub response_bytes : GetFlowsResponse → List ℕ
 response_bytes r = spelling (member_field r.response_types
     ++ text_field 1000 r.node_name
@@ -155,7 +155,8 @@ abbrev pub member_event : Option ResponseTypes → Option Stamp → Option Event
 member_event None time = None
 member_event (Some (member.Flow f)) time = Some (event.Flow f)
 member_event (Some (member.NodeStatus status)) time = None
-member_event (Some (member.LostEvents e)) time = Some (event.Lost (record { event = e; time = time }))
+member_event (Some (member.LostEvents e)) time =
+    Some (event.Lost (record { event = e; time = time }))
 
 -- the event that a GetFlowsResponse holds: a flow, or lost events with the time of the response
 abbrev pub event_in : GetFlowsResponse → Option Event

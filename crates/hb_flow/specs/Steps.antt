@@ -76,7 +76,8 @@ flow_merged f body = fold flow_after (unwrap_or f no_flow) (parts body)
 
 -- an Int32Value with what a field of this number holds
 abbrev pub int32_value_with : Int32Value → ℕ → Content → Int32Value
-int32_value_with v number (Varint value) = if number == 1 then record v { value = int32 value } else v
+int32_value_with v number (Varint value) =
+    if number == 1 then record v { value = int32 value } else v
 int32_value_with v number (Fixed64 value) = v
 int32_value_with v number (Body body) = v
 int32_value_with v number (Fixed32 value) = v
@@ -155,7 +156,8 @@ abbrev pub response_with : GetFlowsResponse → List ℕ → ℕ → Content →
 response_with r raw number (Body body) =
     if number == 1 then record r { response_types = Some (flow_next r.response_types body) }
     else if number == 2 then record r { response_types = Some (status_next r.response_types body) }
-    else if number == 3 then record r { response_types = Some (lost_events_next r.response_types body) }
+    else if number == 3
+    then record r { response_types = Some (lost_events_next r.response_types body) }
     else if number == 1000 then record r { node_name = body }
     else if number == 1001 then record r { time = Some (stamp_merged r.time body) }
     else response_keeping r raw

@@ -1,5 +1,5 @@
 //! Events, and the records that a ring keeps of them.
-ghost use Rattle.std.specs.Prelude.{◌≡◌, ◌++◌, length, take, IfSome, IfOk, OnOk, OnErr};
+ghost use Rattle.std.specs.Prelude.{◌≡◌, ◌++◌, length, take, None, IfSome, IfOk, OnOk, OnErr};
 ghost use Rattle.hb_flow.specs.Faults.{Answers, response_fault};
 ghost use Rattle.hb_flow.specs.Messages.{event_in, record_bytes, read_response, oversized, EventFits};
 
@@ -59,18 +59,17 @@ pub fn record_of(event: &Event, out: &mut Vec<u8>) -> Result<(), NoMemory>
 }
 
 impl GetFlowsResponse {
-    /// The event that it holds, if any: a flow, or lost events with its time.
-    pub fn into_event(self) -> Option<Event>
-        ensures event { result ≡ event_in self }
+    /// Takes the event that it holds out of it, if any: a flow, or lost events with its time.
+    pub fn take_event(&mut self) -> Option<Event>
+        ensures event { result ≡ event_in self.old }
+        ensures kept { self.new ≡ record self.old { response_types = None } }
     {
-        let GetFlowsResponse {
-            response_types,
-            time,
-            ..
-        } = self;
-        match response_types {
+        match self.response_types.take() {
             Some(ResponseTypes::Flow(flow)) => Some(Event::Flow(flow)),
-            Some(ResponseTypes::LostEvents(event)) => Some(Event::Lost(Lost { event, time })),
+            Some(ResponseTypes::LostEvents(event)) => Some(Event::Lost(Lost {
+                event,
+                time: self.time,
+            })),
             _ => None,
         }
     }
@@ -84,7 +83,7 @@ pub fn event_of(alloc: Global, bytes: &[u8]) -> Result<Option<Event>, DecodeFaul
     ensures fits { IfOk result (λ event. IfSome event EventFits) }
 {
     match GetFlowsResponse::read(alloc, bytes) {
-        Ok(response) => Ok(response.into_event()),
+        Ok(mut response) => Ok(response.take_event()),
         Err(fault) => Err(fault),
     }
 }

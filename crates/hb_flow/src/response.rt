@@ -1,5 +1,5 @@
 //! One answer of a node: Cilium's `observer.GetFlowsResponse` (`observer/observer.proto`).
-ghost use Rattle.std.specs.Prelude.{◌≡◌, ◌++◌, IfOk, OnOk, OnErr};
+ghost use Rattle.std.specs.Prelude.{◌≡◌, ◌++◌, IsOk, IfOk, OnOk, OnErr};
 ghost use Rattle.hb_flow.specs.Faults.{response_check};
 ghost use Rattle.hb_flow.specs.Messages.{response_bytes};
 ghost use Rattle.hb_flow.specs.Steps.{response_after};
@@ -75,6 +75,20 @@ impl Message for GetFlowsResponse {
 impl GetFlowsResponse {
     ghost use Rattle.hb_flow.specs.Faults.{Answers, response_fault};
     ghost use Rattle.hb_flow.specs.Messages.{read_response, ResponseFits};
+    ghost use Rattle.hb_flow.specs.Steps.{no_response};
+
+    /// An answer of no field. It takes no memory.
+    pub fn new(alloc: Global) -> Result<GetFlowsResponse, NoMemory>
+        ensures ok { IsOk result }
+        ensures empty { IfOk result (λ r. r ≡ no_response) }
+    {
+        Ok(GetFlowsResponse {
+            response_types: None,
+            node_name: Text::empty(alloc),
+            time: None,
+            unknown: Seq::new(alloc)?,
+        })
+    }
 
     /// Reads an answer (Protocol Buffers encoding guide). A field with another wire type than its
     /// number's is not known. The bytes are gone through once; texts and the fields that are not
@@ -87,17 +101,28 @@ impl GetFlowsResponse {
             (λ r. r ≡ read_response bytes.now) }
         ensures fits { IfOk result ResponseFits }
     {
-        let Ok(unknown) = Seq::new(alloc) else {
+        let Ok(mut response) = GetFlowsResponse::new(alloc) else {
             return Err(DecodeFault::NoMemory);
         };
-        let mut response = GetFlowsResponse {
-            response_types: None,
-            node_name: Text::empty(alloc),
-            time: None,
-            unknown,
-        };
-        match merge(alloc, &mut response, bytes, 0) {
+        match response.read_in_place(alloc, bytes) {
             Ok(()) => Ok(response),
+            Err(fault) => Err(fault),
+        }
+    }
+
+    /// Reads an answer, as `read` does, in the place of this one, so that it is not moved. At `Err` it
+    /// may hold anything.
+    pub fn read_in_place(&mut self, alloc: Global, bytes: &[u8]) -> Result<(), DecodeFault>
+        ensures reads { Answers result (response_fault bytes.now)
+            (λ _. self.new ≡ read_response bytes.now) }
+        ensures fits { OnOk result (ResponseFits self.new) }
+    {
+        let Ok(empty) = GetFlowsResponse::new(alloc) else {
+            return Err(DecodeFault::NoMemory);
+        };
+        *self = empty;
+        match merge(alloc, self, bytes, 0) {
+            Ok(()) => Ok(()),
             Err(fault) => Err(fault),
         }
     }

@@ -50,46 +50,47 @@ no_more file rest frames reading given response same has before read stops =
 
 -- ---- what an answer says
 
--- what an answer says of the file, where the reader gave these responses before
-abbrev pub Says : Reading → List GetFlowsResponse → Next → Type 0
-Says new given (Response response) = HasGiven new (given ++ response ∷ [])
-Says new given End = Recorded new.file given
-Says new given (Bad at) = IsBadAfter new.file given at
-Says new given NoMemory = Unit {0}
+-- what an answer says of the file, where the reader gave these responses before, and the caller's is this then
+abbrev pub Says : Reading → List GetFlowsResponse → GetFlowsResponse → Next → Type 0
+Says new given response Response = HasGiven new (given ++ response ∷ [])
+Says new given response End = Recorded new.file given
+Says new given response (Bad at) = IsBadAfter new.file given at
+Says new given response NoMemory = Unit {0}
 
-is_end : (file : List ℕ) (new : Reading) (given : List GetFlowsResponse) (answer : Next) → new.file ≡ file → Says new given answer → answer ≢ NoMemory
-    → Recorded file given → answer ≡ End
-is_end file new given (Response response) same says no_want recorded =
+is_end : (file : List ℕ) (new : Reading) (given : List GetFlowsResponse) (response : GetFlowsResponse) (answer : Next)
+    → new.file ≡ file → Says new given response answer → answer ≢ NoMemory → Recorded file given → answer ≡ End
+is_end file new given response Response same says no_want recorded =
     absurd (no_more file [] recorded.frames new given response same says (takes_all file given recorded) recorded.read end_stops)
-is_end file new given End same says no_want recorded = refl
-is_end file new given (Bad at) same says no_want recorded =
+is_end file new given response End same says no_want recorded = refl
+is_end file new given response (Bad at) same says no_want recorded =
     absurd (recorded_not_bad file given at recorded (given, subst (λ (f : List ℕ). IsBadAfter f given at) same says))
-is_end file new given NoMemory same says no_want recorded = absurd (no_want refl)
+is_end file new given response NoMemory same says no_want recorded = absurd (no_want refl)
 
-says_end : (file : List ℕ) (new : Reading) (given : List GetFlowsResponse) (answer : Next) → new.file ≡ file → Says new given answer → answer ≡ End → Recorded file given
-says_end file new given answer same says is = subst (λ (f : List ℕ). Recorded f given) same (subst (Says new given) is says)
+says_end : (file : List ℕ) (new : Reading) (given : List GetFlowsResponse) (response : GetFlowsResponse) (answer : Next)
+    → new.file ≡ file → Says new given response answer → answer ≡ End → Recorded file given
+says_end file new given response answer same says is = subst (λ (f : List ℕ). Recorded f given) same (subst (Says new given response) is says)
 
-pub end_exact : (file : List ℕ) (new : Reading) (given : List GetFlowsResponse) (answer : Next) → new.file ≡ file → Says new given answer → answer ≢ NoMemory
-    → (answer ≡ End) ↔ Recorded file given
-end_exact file new given answer same says no_want = (says_end file new given answer same says, is_end file new given answer same says no_want)
+pub end_exact : (file : List ℕ) (new : Reading) (given : List GetFlowsResponse) (response : GetFlowsResponse) (answer : Next)
+    → new.file ≡ file → Says new given response answer → answer ≢ NoMemory → (answer ≡ End) ↔ Recorded file given
+end_exact file new given response answer same says no_want = (says_end file new given response answer same says, is_end file new given response answer same says no_want)
 
-is_bad : (file : List ℕ) (new : Reading) (given : List GetFlowsResponse) (at : ℕ) (answer : Next) → new.file ≡ file → Says new given answer → answer ≢ NoMemory
-    → IsBadAfter file given at → answer ≡ Bad at
-is_bad file new given at (Response response) same says no_want bad =
+is_bad : (file : List ℕ) (new : Reading) (given : List GetFlowsResponse) (at : ℕ) (response : GetFlowsResponse) (answer : Next)
+    → new.file ≡ file → Says new given response answer → answer ≢ NoMemory → IsBadAfter file given at → answer ≡ Bad at
+is_bad file new given at response Response same says no_want bad =
     absurd (no_more file bad.rest bad.frames new given response same says bad.before bad.read (bad_stops bad.rest bad.bad))
-is_bad file new given at End same says no_want bad =
+is_bad file new given at response End same says no_want bad =
     absurd (recorded_not_bad file given at (subst (λ (f : List ℕ). Recorded f given) same says) (given, bad))
-is_bad file new given at (Bad there) same says no_want bad =
+is_bad file new given at response (Bad there) same says no_want bad =
     ap Bad (place_once file there at (given, subst (λ (f : List ℕ). IsBadAfter f given there) same says) (given, bad))
-is_bad file new given at NoMemory same says no_want bad = absurd (no_want refl)
+is_bad file new given at response NoMemory same says no_want bad = absurd (no_want refl)
 
-says_bad : (file : List ℕ) (new : Reading) (given : List GetFlowsResponse) (at : ℕ) (answer : Next) → new.file ≡ file → Says new given answer → answer ≡ Bad at
-    → IsBadAfter file given at
-says_bad file new given at answer same says is = subst (λ (f : List ℕ). IsBadAfter f given at) same (subst (Says new given) is says)
+says_bad : (file : List ℕ) (new : Reading) (given : List GetFlowsResponse) (at : ℕ) (response : GetFlowsResponse) (answer : Next)
+    → new.file ≡ file → Says new given response answer → answer ≡ Bad at → IsBadAfter file given at
+says_bad file new given at response answer same says is = subst (λ (f : List ℕ). IsBadAfter f given at) same (subst (Says new given response) is says)
 
-pub bad_exact : (file : List ℕ) (new : Reading) (given : List GetFlowsResponse) (at : ℕ) (answer : Next) → new.file ≡ file → Says new given answer → answer ≢ NoMemory
-    → (answer ≡ Bad at) ↔ IsBadAfter file given at
-bad_exact file new given at answer same says no_want = (says_bad file new given at answer same says, is_bad file new given at answer same says no_want)
+pub bad_exact : (file : List ℕ) (new : Reading) (given : List GetFlowsResponse) (at : ℕ) (response : GetFlowsResponse) (answer : Next)
+    → new.file ≡ file → Says new given response answer → answer ≢ NoMemory → (answer ≡ Bad at) ↔ IsBadAfter file given at
+bad_exact file new given at response answer same says no_want = (says_bad file new given at response answer same says, is_bad file new given at response answer same says no_want)
 
 -- ---- what a reader gave
 
@@ -125,13 +126,14 @@ given_more old message after given response has next sound is =
     }
 
 -- at the end of the file all was given
-pub says_all : (reading : Reading) (given : List GetFlowsResponse) → HasGiven reading given → length reading.rest ≡ 0 → Says reading given End
-says_all reading given has none = subst (Recorded reading.file) (sym has.read) (all_recorded reading.file reading.rest has.frames has.before none)
+pub says_all : (reading : Reading) (given : List GetFlowsResponse) (response : GetFlowsResponse) → HasGiven reading given → length reading.rest ≡ 0
+    → Says reading given response End
+says_all reading given response has none = subst (Recorded reading.file) (sym has.read) (all_recorded reading.file reading.rest has.frames has.before none)
 
 -- where the rest begins with no frame it is bad
-pub says_no_frame : (reading : Reading) (given : List GetFlowsResponse) (at : ℕ) → HasGiven reading given → 0 < length reading.rest → StartsNoFrame reading.rest
-    → at ≡ length reading.file - length reading.rest → Says reading given (Bad at)
-says_no_frame reading given at has some none is = record {
+pub says_no_frame : (reading : Reading) (given : List GetFlowsResponse) (at : ℕ) (response : GetFlowsResponse) → HasGiven reading given
+    → 0 < length reading.rest → StartsNoFrame reading.rest → at ≡ length reading.file - length reading.rest → Says reading given response (Bad at)
+says_no_frame reading given at response has some none is = record {
   frames = has.frames;
   rest = reading.rest;
   before = has.before;
@@ -141,12 +143,12 @@ says_no_frame reading given at has some none is = record {
 }
 
 -- what came of a message says so
-pub says_message : (old new : Reading) (message after : List ℕ) (given : List GetFlowsResponse) (answer : Next) → HasGiven old given
-    → StartsFrame old.rest (message_frame message) after → ReadsMessage message after old new answer → Says new given answer
-says_message old new message after given (Response response) has next came =
+pub says_message : (old new : Reading) (message after : List ℕ) (given : List GetFlowsResponse) (response : GetFlowsResponse) (answer : Next) → HasGiven old given
+    → StartsFrame old.rest (message_frame message) after → ReadsMessage message after old new response answer → Says new given response answer
+says_message old new message after given response Response has next came =
     subst (λ (r : Reading). HasGiven r (given ++ response ∷ [])) (sym came.2) (given_more old message after given response has next came.0 came.1)
-says_message old new message after given End has next came = absurd came
-says_message old new message after given (Bad at) has next came =
+says_message old new message after given response End has next came = absurd came
+says_message old new message after given response (Bad at) has next came =
     subst (λ (r : Reading). IsBadAfter r.file given at) (sym came.2) (record {
       frames = has.frames;
       rest = old.rest;
@@ -155,26 +157,27 @@ says_message old new message after given (Bad at) has next came =
       place = place_of old.file old.rest at has.frames has.before came.1;
       bad = inr (message, after, next, came.0);
     })
-says_message old new message after given NoMemory has next came = tt
+says_message old new message after given response NoMemory has next came = tt
 
-pub stands_message : (old new : Reading) (message after : List ℕ) (given : List GetFlowsResponse) (answer : Next) → HasGiven old given
-    → StartsFrame old.rest (message_frame message) after → ReadsMessage message after old new answer → HasGiven new (given ++ given_by answer)
-stands_message old new message after given (Response response) has next came = says_message old new message after given (Response response) has next came
-stands_message old new message after given End has next came = absurd came
-stands_message old new message after given (Bad at) has next came = subst (HasGiven new) (sym (append-nil given)) (subst (λ (r : Reading). HasGiven r given) (sym came.2) has)
-stands_message old new message after given NoMemory has next came = subst (HasGiven new) (sym (append-nil given)) (subst (λ (r : Reading). HasGiven r given) (sym came) has)
+pub stands_message : (old new : Reading) (message after : List ℕ) (given : List GetFlowsResponse) (response : GetFlowsResponse) (answer : Next) → HasGiven old given
+    → StartsFrame old.rest (message_frame message) after → ReadsMessage message after old new response answer → HasGiven new (given ++ given_by answer response)
+stands_message old new message after given response Response has next came = says_message old new message after given response Response has next came
+stands_message old new message after given response End has next came = absurd came
+stands_message old new message after given response (Bad at) has next came = subst (HasGiven new) (sym (append-nil given)) (subst (λ (r : Reading). HasGiven r given) (sym came.2) has)
+stands_message old new message after given response NoMemory has next came = subst (HasGiven new) (sym (append-nil given)) (subst (λ (r : Reading). HasGiven r given) (sym came) has)
 
 -- and takes the bytes of its frame
-pub further_message : (old new : Reading) (message after : List ℕ) (answer : Next) → StartsFrame old.rest (message_frame message) after
-    → ReadsMessage message after old new answer → IsFurther old new answer
-further_message old new message after (Response response) next came =
+pub further_message : (old new : Reading) (message after : List ℕ) (response : GetFlowsResponse) (answer : Next) → StartsFrame old.rest (message_frame message) after
+    → ReadsMessage message after old new response answer → IsFurther old new (given_by answer response)
+further_message old new message after response Response next came =
     omega (arith, frame_size old.rest message after 0 next, ap (λ (r : Reading). length r.rest) came.2)
-further_message old new message after End next came = absurd came
-further_message old new message after (Bad at) next came = omega (arith, ap (λ (r : Reading). length r.rest) came.2)
-further_message old new message after NoMemory next came = omega (arith, ap (λ (r : Reading). length r.rest) came)
+further_message old new message after response End next came = absurd came
+further_message old new message after response (Bad at) next came = omega (arith, ap (λ (r : Reading). length r.rest) came.2)
+further_message old new message after response NoMemory next came = omega (arith, ap (λ (r : Reading). length r.rest) came)
 
-pub file_message : (old new : Reading) (message after : List ℕ) (answer : Next) → ReadsMessage message after old new answer → new.file ≡ old.file
-file_message old new message after (Response response) came = ap (λ (r : Reading). r.file) came.2
-file_message old new message after End came = absurd came
-file_message old new message after (Bad at) came = ap (λ (r : Reading). r.file) came.2
-file_message old new message after NoMemory came = ap (λ (r : Reading). r.file) came
+pub file_message : (old new : Reading) (message after : List ℕ) (response : GetFlowsResponse) (answer : Next)
+    → ReadsMessage message after old new response answer → new.file ≡ old.file
+file_message old new message after response Response came = ap (λ (r : Reading). r.file) came.2
+file_message old new message after response End came = absurd came
+file_message old new message after response (Bad at) came = ap (λ (r : Reading). r.file) came.2
+file_message old new message after response NoMemory came = ap (λ (r : Reading). r.file) came

@@ -18,12 +18,14 @@ pub record IsSound (message : List ℕ) : Type 0 where
 
 -- it has a fault, or its response, spelled anew, fits no frame
 abbrev pub IsBad : List ℕ → Type 0
-IsBad message = IsSome (response_fault message) ⊎ (longest_body < length (response_bytes (read_response message)))
+IsBad message = IsSome (response_fault message)
+    ⊎ (longest_body < length (response_bytes (read_response message)))
 
 -- ---- a file
 
--- The file is a recording of these responses: it is cut into frames with no rest, whose messages are
--- sound and read as the responses. Frames of other kinds are passed over, whatever their body.
+-- The file is a recording of these responses: it is cut into frames with no rest, whose messages
+-- are sound and read as the responses. Frames of other kinds are passed over, whatever their
+-- body.
 pub record Recorded (file : List ℕ) (responses : List GetFlowsResponse) : Type 0 where
   pub frames : List Frame
   pub cut : IsCut file frames []
@@ -53,10 +55,11 @@ pub record TakesFrames (file : List ℕ) (frames : List Frame) (rest : List ℕ)
 -- it goes on, but with no whole frame, or with one whose message is bad
 abbrev pub IsBadFront : List ℕ → Type 0
 IsBadFront rest = ((0 < length rest) × StartsNoFrame rest)
-    ⊎ ((message : List ℕ) × (after : List ℕ) × StartsFrame rest (message_frame message) after × IsBad message)
+    ⊎ ((message : List ℕ) × (after : List ℕ) × StartsFrame rest (message_frame message) after
+    × IsBad message)
 
--- the first frame of the file that is not sound is bad, so many bytes come before it, and these are the
--- responses of the frames before it
+-- the first frame of the file that is not sound is bad, so many bytes come before it, and these
+-- are the responses of the frames before it
 pub record IsBadAfter (file : List ℕ) (responses : List GetFlowsResponse) (at : ℕ) : Type 0 where
   pub frames : List Frame
   pub rest : List ℕ

@@ -13,10 +13,10 @@ use std::alloc::Global;
 use std::marker::Model;
 
 /// What a recording has next.
-#[derive(Debug, Drop)]
+#[derive(Clone, Copy, Debug, PartialEq, Eq)]
 pub enum Next {
-    /// The next response.
-    Response(GetFlowsResponse),
+    /// A response, which was read in the place of the caller's.
+    Response,
     /// Nothing: all responses were given.
     End,
     /// The frame that starts at this place of the file, in bytes, is not whole, is refused, or its
@@ -60,18 +60,19 @@ impl<'a> RecordingReader<'a> {
         }
     }
 
-    /// The next response, or why there is none; then it answers the same again. The cost goes by the
-    /// lengths of the frames that it passes.
-    pub fn next(&mut self) -> Next
+    /// Reads the next response in the place of `response`, or tells why there is none; then it answers
+    /// the same again, and `response` may hold anything. The cost goes by the lengths of the frames that
+    /// it passes.
+    pub fn next(&mut self, response: &mut GetFlowsResponse) -> Next
         ensures stands { (given : List GetFlowsResponse) → HasGiven self.old given
-            → HasGiven self.new (given ++ given_by result) }
+            → HasGiven self.new (given ++ given_by result response.new) }
         ensures end { (given : List GetFlowsResponse) → HasGiven self.old given
             → result ≢ Next.NoMemory
             → (result ≡ Next.End) ↔ Recorded self.old.file given }
         ensures bad { (given : List GetFlowsResponse) (at : ℕ) → HasGiven self.old given
             → result ≢ Next.NoMemory
             → (result ≡ Next.Bad at) ↔ IsBadAfter self.old.file given at }
-        ensures further { IsFurther self.old self.new result }
+        ensures further { IsFurther self.old self.new (given_by result response.new) }
         ensures file { self.new.file ≡ self.old.file }
     {
         while !self.rest.is_empty() {
@@ -79,7 +80,7 @@ impl<'a> RecordingReader<'a> {
                 return Next::Bad { at: self.place() };
             };
             if kind == MESSAGE {
-                return self.read(body, after);
+                return self.read(body, after, response);
             }
             self.rest = after;
         }
@@ -94,20 +95,20 @@ impl<'a> RecordingReader<'a> {
     }
 
     /// Reads the message that comes next, and what comes after its frame.
-    fn read(&mut self, message: &[u8], after: &'a [u8]) -> Next
+    fn read(&mut self, message: &[u8], after: &'a [u8], response: &mut GetFlowsResponse) -> Next
         requires starts { StartsFrame self.old.rest (message_frame message.now) after.now }
-        ensures { ReadsMessage message.now after.now self.old self.new result }
+        ensures { ReadsMessage message.now after.now self.old self.new response.new result }
     {
-        let response = match GetFlowsResponse::read(self.alloc, message) {
-            Ok(response) => response,
+        match response.read_in_place(self.alloc, message) {
+            Ok(()) => {}
             Err(DecodeFault::NoMemory) => return Next::NoMemory,
             Err(DecodeFault::Malformed { .. }) => return Next::Bad { at: self.place() },
             Err(DecodeFault::BadUtf8 { .. }) => return Next::Bad { at: self.place() },
-        };
-        match fits_frame(&response, &mut self.scratch) {
+        }
+        match fits_frame(response, &mut self.scratch) {
             Ok(true) => {
                 self.rest = after;
-                Next::Response(response)
+                Next::Response
             }
             Ok(false) => Next::Bad { at: self.place() },
             Err(_) => Next::NoMemory,

@@ -31,10 +31,10 @@ fn told_uuid(alloc: Global, uuid: &str) -> Result<String, Fail> {
     }
 }
 
-/// An answer in words. A response fits a frame, spelled anew.
-fn answered(alloc: Global, next: &Next) -> Result<String, Fail> {
+/// An answer in words, where the response is this then. One that is given fits a frame, spelled anew.
+fn answered(alloc: Global, next: Next, response: &GetFlowsResponse) -> Result<String, Fail> {
     match next {
-        Next::Response(response) => {
+        Next::Response => {
             put_response(alloc, &mut Vec::new(alloc), response)?;
             told(alloc, response)
         }
@@ -46,7 +46,9 @@ fn answered(alloc: Global, next: &Next) -> Result<String, Fail> {
 
 /// The reader's next answer in words.
 fn next_words(alloc: Global, reader: &mut RecordingReader<'_>) -> Result<String, Fail> {
-    answered(alloc, &reader.next())
+    let mut response = GetFlowsResponse::new(alloc)?;
+    let next = reader.next(&mut response);
+    answered(alloc, next, &response)
 }
 
 /// Appends the next answer in words. Whether it is the last one, which comes twice.
@@ -113,8 +115,9 @@ fn put_anew(
     reader: &mut RecordingReader<'_>,
     file: &mut Vec<u8>,
 ) -> Result<bool, Fail> {
-    match reader.next() {
-        Next::Response(response) => put_response(alloc, file, &response),
+    let mut response = GetFlowsResponse::new(alloc)?;
+    match reader.next(&mut response) {
+        Next::Response => put_response(alloc, file, &response),
         _ => Ok(false),
     }
 }

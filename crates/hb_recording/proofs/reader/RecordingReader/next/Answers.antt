@@ -15,11 +15,12 @@ returns-in_default c =
     let reading = c.loop-self.self in
     let some : 0 < length reading.rest = search rules in
     let none = no_frame_begins reading.rest c.front_of.result (search rules) c.in_default.not-Frame in
-    let says : (given : List GetFlowsResponse) → HasGiven c.args.self.now given → Says reading given (Bad c.place.result) =
-    λ given has. says_no_frame reading given c.place.result (c.loop-self.invariant.stands given has) some none (search rules) in record {
+    let held = c.args.response.now in
+    let says : (given : List GetFlowsResponse) → HasGiven c.args.self.now given → Says reading given held (Bad c.place.result) =
+    λ given has. says_no_frame reading given c.place.result held (c.loop-self.invariant.stands given has) some none (search rules) in record {
       stands = λ given has. subst (HasGiven reading) (sym (append-nil given)) (c.loop-self.invariant.stands given has);
-      end = λ given has no_want. end_exact c.args.self.now.file reading given (Bad c.place.result) c.loop-self.invariant.file (says given has) no_want;
-      bad = λ given at has no_want. bad_exact c.args.self.now.file reading given at (Bad c.place.result) c.loop-self.invariant.file (says given has) no_want;
+      end = λ given has no_want. end_exact c.args.self.now.file reading given held (Bad c.place.result) c.loop-self.invariant.file (says given has) no_want;
+      bad = λ given at has no_want. bad_exact c.args.self.now.file reading given at held (Bad c.place.result) c.loop-self.invariant.file (says given has) no_want;
       further = omega (arith, c.loop-self.invariant.shorter);
       file = c.loop-self.invariant.file;
     }
@@ -27,7 +28,7 @@ returns-in_default c =
 pub returns-then-kind-eq-MESSAGE-clause-stands : goal.returns-then-kind-eq-MESSAGE-clause-stands
 returns-then-kind-eq-MESSAGE-clause-stands c = λ given has.
     let next : StartsFrame c.loop-self.self.rest (message_frame c.in-Frame.body.now) c.in-Frame.after.now = search rules in
-    stands_message c.loop-self.self c.read.new.self c.in-Frame.body.now c.in-Frame.after.now given c.read.result (c.loop-self.invariant.stands given has) next c.read.ensures
+    stands_message c.loop-self.self c.read.new.self c.in-Frame.body.now c.in-Frame.after.now given c.read.new.response c.read.result (c.loop-self.invariant.stands given has) next c.read.ensures
 
 pub returns-then-kind-eq-MESSAGE-clause-end : goal.returns-then-kind-eq-MESSAGE-clause-end
 returns-then-kind-eq-MESSAGE-clause-end c = λ given has no_want.
@@ -35,9 +36,9 @@ returns-then-kind-eq-MESSAGE-clause-end c = λ given has no_want.
     let body = c.in-Frame.body.now in
     let after = c.in-Frame.after.now in
     let next : StartsFrame old.rest (message_frame body) after = search rules in
-    let same = file_message old c.read.new.self body after c.read.result c.read.ensures ∙ c.loop-self.invariant.file in
-    let says = says_message old c.read.new.self body after given c.read.result (c.loop-self.invariant.stands given has) next c.read.ensures in
-    end_exact c.args.self.now.file c.read.new.self given c.read.result same says no_want
+    let same = file_message old c.read.new.self body after c.read.new.response c.read.result c.read.ensures ∙ c.loop-self.invariant.file in
+    let says = says_message old c.read.new.self body after given c.read.new.response c.read.result (c.loop-self.invariant.stands given has) next c.read.ensures in
+    end_exact c.args.self.now.file c.read.new.self given c.read.new.response c.read.result same says no_want
 
 pub returns-then-kind-eq-MESSAGE-clause-bad : goal.returns-then-kind-eq-MESSAGE-clause-bad
 returns-then-kind-eq-MESSAGE-clause-bad c = λ given at has no_want.
@@ -45,9 +46,9 @@ returns-then-kind-eq-MESSAGE-clause-bad c = λ given at has no_want.
     let body = c.in-Frame.body.now in
     let after = c.in-Frame.after.now in
     let next : StartsFrame old.rest (message_frame body) after = search rules in
-    let same = file_message old c.read.new.self body after c.read.result c.read.ensures ∙ c.loop-self.invariant.file in
-    let says = says_message old c.read.new.self body after given c.read.result (c.loop-self.invariant.stands given has) next c.read.ensures in
-    bad_exact c.args.self.now.file c.read.new.self given at c.read.result same says no_want
+    let same = file_message old c.read.new.self body after c.read.new.response c.read.result c.read.ensures ∙ c.loop-self.invariant.file in
+    let says = says_message old c.read.new.self body after given c.read.new.response c.read.result (c.loop-self.invariant.stands given has) next c.read.ensures in
+    bad_exact c.args.self.now.file c.read.new.self given at c.read.new.response c.read.result same says no_want
 
 pub loop-self-preserved : goal.loop-self-preserved
 loop-self-preserved c =
@@ -69,11 +70,11 @@ loop-self-preserved c =
 pub returns-clause-end : goal.returns-clause-end
 returns-clause-end c = λ given has no_want.
     let none : length c.loop-self.self.rest ≡ 0 = search rules in
-    let says = says_all c.loop-self.self given (c.loop-self.invariant.stands given has) none in
-    end_exact c.args.self.now.file c.loop-self.self given End c.loop-self.invariant.file says no_want
+    let says = says_all c.loop-self.self given c.args.response.now (c.loop-self.invariant.stands given has) none in
+    end_exact c.args.self.now.file c.loop-self.self given c.args.response.now End c.loop-self.invariant.file says no_want
 
 pub returns-clause-bad : goal.returns-clause-bad
 returns-clause-bad c = λ given at has no_want.
     let none : length c.loop-self.self.rest ≡ 0 = search rules in
-    let says = says_all c.loop-self.self given (c.loop-self.invariant.stands given has) none in
-    bad_exact c.args.self.now.file c.loop-self.self given at End c.loop-self.invariant.file says no_want
+    let says = says_all c.loop-self.self given c.args.response.now (c.loop-self.invariant.stands given has) none in
+    bad_exact c.args.self.now.file c.loop-self.self given at c.args.response.now End c.loop-self.invariant.file says no_want
