@@ -1,5 +1,6 @@
 //! `ListEye`: a reader at its ring.
-ghost use Rattle.hb_listring.specs.Places.{HasSeenAtMost};
+ghost use Rattle.std.specs.Prelude.{◌≤◌};
+ghost use Rattle.hb_listring.specs.Log.{HasLimits};
 
 use crate::reader::ListReader;
 use crate::ring::{ListRing, Place};
@@ -11,18 +12,17 @@ pub struct ListEye<'a> {
     pub reader: &'a mut ListReader,
     pub ring: &'a ListRing,
     /// The reader has seen no more than the ring has written.
-    ghost within: { HasSeenAtMost ring.now.written reader.now },
+    ghost within: { reader.now.seen ≤ ring.now.written },
+    /// The ring's limits are within those of every ring.
+    ghost limits: { HasLimits ring.now },
 }
 
 impl<'a> Look for ListEye<'a> {
     ghost use Rattle.std.specs.Prelude.{ℕ};
     ghost use Rattle.hb_listring.specs.Log.{Kept, StandsFor};
+    ghost use Rattle.hb_listring.specs.Places.{reader_at};
 
-    ghost reader = { λ eye. eye.reader.now };
-
-    ghost capacity = { λ eye. eye.ring.now.capacity };
-
-    ghost longest = { λ eye. eye.ring.now.slot };
+    ghost reader = { λ eye. reader_at eye.ring.now eye.reader.now };
 
     ghost tells = { λ eye log. StandsFor eye.ring.now log };
 
@@ -30,13 +30,12 @@ impl<'a> Look for ListEye<'a> {
 
     ghost fixed = { λ eye. (eye.ring.now, eye.reader.ghost_name) };
 
-    #[tactic(auto, using(crate::proofs::Looks::look_stands))]
     fn look(&mut self, position: u64, moment: u64, out: &mut Record) -> Looked {
         let place = self.ring.place(position);
         let written = self.ring.written();
         if self
             .reader
-            .add_look(written, position, moment, place)
+            .add_look(self.ring.capacity(), written, position, moment, place)
             .is_err()
         {
             return Looked::NoMemory;
@@ -65,4 +64,6 @@ impl<'a> Look for ListEye<'a> {
     fn looked(&self) -> u64 {
         self.reader.looked()
     }
+
+    ghost bounds = { λ eye. eye.limits };
 }

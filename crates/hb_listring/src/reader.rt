@@ -1,8 +1,7 @@
 //! `ListReader`: the looks that one reader made.
 ghost use Rattle.std.specs.Prelude.{◌≡◌, ◌<◌, ◌≤◌, length, IfOk, IsOk, OnOk, OnErr};
 ghost use Rattle.hb_look.specs.Limits.{most_records};
-ghost use Rattle.hb_look.specs.Reader.{IsLater, fresh};
-ghost use Rattle.hb_listring.specs.Places.{HasSeenAtMost, after_load, after_look};
+ghost use Rattle.hb_listring.specs.Places.{fresh, after_load, after_look};
 ghost use Rattle.hb_listring.specs.Found.{found_in};
 
 use crate::ring::Place;
@@ -23,14 +22,14 @@ pub struct ListReader {
 impl Model for ListReader {
     ghost use Rattle.std.specs.Prelude.{◌≤◌, length};
     ghost use Rattle.hb_look.specs.Limits.{most_records};
-    ghost use Rattle.hb_look.specs.Reader.{Reader};
+    ghost use Rattle.hb_listring.specs.Places.{Noted};
 
-    ghost Value = { Reader };
+    ghost Value = { Noted };
 
     ghost view = { λ r. record {
       looks = r.looks.items;
-      finished = record { count = r.seen; loads = r.loads };
-      begun = record { count = r.seen; loads = r.loads };
+      seen = r.seen;
+      loads = r.loads;
     } };
 
     ghost invariant = { λ r. length r.looks.items ≤ most_records };
@@ -58,27 +57,27 @@ impl ListReader {
 
     /// Loads the ring's count of records.
     pub(crate) fn load(&mut self, written: u64)
-        requires seen { HasSeenAtMost written self.old }
         ensures loaded { self.new ≡ after_load self.old written }
-        ensures later { IsLater self.old self.new }
+        ensures loads { self.old.loads ≤ self.new.loads }
     {
         self.seen = written;
         self.loads = self.loads.saturating_add(1);
     }
 
-    /// Loads the ring's count of records, and adds a look.
+    /// Loads the count of records of a ring of this capacity, and adds a look.
     pub(crate) fn add_look(
         &mut self,
+        capacity: u64,
         written: u64,
         position: u64,
         moment: u64,
         place: Place<'_>,
     ) -> Result<(), NoMemory>
         requires unspent { length self.old.looks < most_records }
-        requires seen { HasSeenAtMost written self.old }
         ensures ok { OnOk result
-            (self.new ≡ after_look self.old written position moment (found_in place.entry)) }
-        ensures later { IsLater self.old self.new }
+            (self.new ≡ after_look self.old capacity written position moment
+            (found_in place.entry)) }
+        ensures loads { self.old.loads ≤ self.new.loads }
         ensures err { OnErr result (self.new ≡ self.old) }
     {
         let found = match place {
@@ -90,6 +89,7 @@ impl ListReader {
             position,
             found,
             moment,
+            capacity,
         };
         self.looks.push(look)?;
         self.load(written);
@@ -111,6 +111,7 @@ struct StoredLook {
     position: u64,
     found: Stored,
     moment: u64,
+    capacity: u64,
 }
 
 impl Model for StoredLook {
@@ -123,5 +124,6 @@ impl Model for StoredLook {
       position = l.position;
       found = stored l.found;
       moment = l.moment;
+      capacity = l.capacity;
     } };
 }

@@ -1,7 +1,7 @@
 //! `ListRing`: the last records of a log, by their positions.
 ghost use Rattle.std.specs.Prelude.{◌≡◌, ℕ, ◌≤◌, List, [], length, IfOk};
 ghost use Rattle.hb_look.specs.Limits.{longest_record, most_records, largest_capacity, IsCapacity, IsSlot};
-ghost use Rattle.hb_listring.specs.Log.{StandsFor};
+ghost use Rattle.hb_listring.specs.Log.{StandsFor, HasLimits};
 ghost use Rattle.hb_listring.specs.Places.{IsFoundIn};
 ghost use Rattle.hb_listring.specs.Found.{found_in};
 
@@ -63,6 +63,7 @@ impl ListRing {
         ensures stands { IfOk result (λ ring. StandsFor ring []) }
         ensures capacity { IfOk result (λ ring. ring.capacity ≡ cap) }
         ensures slot { IfOk result (λ ring. ring.slot ≡ slot_bytes) }
+        ensures limits { IfOk result HasLimits }
     {
         let Ok(records) = HeapCircularBuffer::with_capacity(alloc, cap as usize + 1) else {
             return Err(NoMemory);
@@ -80,6 +81,7 @@ impl ListRing {
         ensures written { result ≡ self.now.written }
         ensures log { (log : List (List ℕ)) → StandsFor self.now log → length log ≡ result }
         ensures most { result ≤ most_records }
+        ensures limits { HasLimits self.now }
     {
         self.written
     }
@@ -87,8 +89,6 @@ impl ListRing {
     /// How many of the last records it keeps, beside the one that is overwritten next.
     pub(crate) fn capacity(&self) -> u64
         ensures capacity { result ≡ self.now.capacity }
-        ensures bounds { (self.now.capacity ≤ largest_capacity)
-            × (self.now.slot ≤ longest_record) }
     {
         self.records.capacity() as u64 - 1
     }

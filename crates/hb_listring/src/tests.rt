@@ -1,11 +1,13 @@
 //! Rows worked out by hand, which also show that each call succeeds where there is memory; and that a
 //! reader is known again once the eye is let go through which a generic function looked.
 ghost use Rattle.std.specs.Prelude.{◌≡◌, ◌+◌, ◌<◌, ◌≤◌, ℕ, List, length, IfSome};
+ghost use Rattle.std.specs.List.{All};
 ghost use Rattle.hb_look.specs.Limits.{most_records, IsCapacity};
-ghost use Rattle.hb_look.specs.Reader.{fresh};
-ghost use Rattle.hb_look.specs.Answers.{IsFoundAt, found_by, with_look};
-ghost use Rattle.hb_listring.specs.Log.{StandsFor};
-ghost use Rattle.hb_listring.specs.Places.{HasSeenAtMost};
+ghost use Rattle.hb_look.specs.Looks.{added};
+ghost use Rattle.hb_look.specs.Answers.{IsExact, found_by, with_look};
+ghost use Rattle.hb_look.specs.Progress.{HasLooked};
+ghost use Rattle.hb_listring.specs.Log.{StandsFor, HasLimits};
+ghost use Rattle.hb_listring.specs.Places.{fresh};
 
 use super::*;
 use hb_cases::{Row, bytes, number, rows};
@@ -20,15 +22,13 @@ const SLOT: usize = 64;
 fn look_through<R: Look>(reader: &mut R, position: u64, out: &mut Record) -> Looked
     requires unspent { length (R.reader reader.old).looks < most_records }
     requires place { position ≤ most_records }
-    requires room { R.longest reader.old ≤ out.old.room }
+    requires room { (R.reader reader.old).longest ≤ out.old.room }
+    ensures looked { HasLooked R.reader R.tells R.fixed reader.old reader.new }
     ensures listed { (R.reader reader.new).looks ≡ with_look (R.reader reader.old).looks
-        position position (found_by result out.new.bytes) }
+        (R.reader reader.old).capacity position position (found_by result out.new.bytes) }
     ensures more { length (R.reader reader.new).looks
         ≤ length (R.reader reader.old).looks + 1 }
-    ensures told { (log : List (List ℕ)) → R.tells reader.old log → IfSome
-        (found_by result out.new.bytes) (IsFoundAt log (R.capacity reader.old) position) }
     ensures room { out.new.room ≡ out.old.room }
-    ensures fixed { R.fixed reader.new ≡ R.fixed reader.old }
 {
     reader.look(position, position, out)
 }
@@ -36,16 +36,17 @@ fn look_through<R: Look>(reader: &mut R, position: u64, out: &mut Record) -> Loo
 /// Makes an eye, looks through it and lets it go: the reader has one look more, which finds what the
 /// ring's log has, and the ring is its ring still.
 fn look_at(ring: &ListRing, reader: &mut ListReader, position: u64, out: &mut Record) -> Looked
-    requires seen { HasSeenAtMost ring.now.written reader.old }
+    requires seen { reader.old.seen ≤ ring.now.written }
+    requires limits { HasLimits ring.now }
     requires unspent { length reader.old.looks < most_records }
     requires place { position ≤ most_records }
     requires room { ring.now.slot ≤ out.old.room }
-    ensures seen { HasSeenAtMost ring.now.written reader.new }
+    ensures seen { reader.new.seen ≤ ring.now.written }
     ensures listed { reader.new.looks ≡ with_look reader.old.looks
-        position position (found_by result out.new.bytes) }
+        ring.now.capacity position position (found_by result out.new.bytes) }
     ensures more { length reader.new.looks ≤ length reader.old.looks + 1 }
-    ensures told { (log : List (List ℕ)) → StandsFor ring.now log → IfSome
-        (found_by result out.new.bytes) (IsFoundAt log ring.now.capacity position) }
+    ensures found { (log : List (List ℕ)) → StandsFor ring.now log
+        → All (IsExact log) (added reader.old.looks reader.new.looks) }
     ensures room { out.new.room ≡ out.old.room }
 {
     let mut eye = ListEye { reader, ring };
@@ -68,7 +69,8 @@ struct Bench {
     ring: ListRing,
     reader: ListReader,
     out: Record,
-    ghost within: { HasSeenAtMost ring.written reader },
+    ghost within: { reader.seen ≤ ring.written },
+    ghost limits: { HasLimits ring },
     ghost room: { ring.slot ≤ out.room },
 }
 

@@ -17,33 +17,33 @@ moves log cap position (Gone next) so = omega (arith, so.0)
 moves log cap position NotYet so = omega arith
 
 -- the reach of a run is not before its start
-reaches : (log : List (List ℕ)) (cap start : ℕ) (looks : List LookMade) → IsRun start looks → All (IsTrueOf log cap) looks → start ≤ reach start looks
-reaches log cap start [] run so = omega arith
-reaches log cap start (look ∷ looks) run so =
-    let tail = reaches log cap (after look) looks run.1 (All-tail (IsTrueOf log cap) look looks so) in
-    omega (arith, run.0, moves log cap look.position look.found (All-head (IsTrueOf log cap) look looks so), tail)
+reaches : (log : List (List ℕ)) (start : ℕ) (looks : List LookMade) → IsRun start looks → All (IsTrueOf log) looks → start ≤ reach start looks
+reaches log start [] run so = omega arith
+reaches log start (look ∷ looks) run so =
+    let tail = reaches log (after look) looks run.1 (All-tail (IsTrueOf log) look looks so) in
+    omega (arith, run.0, moves log look.capacity look.position look.found (All-head (IsTrueOf log) look looks so), tail)
 
 -- each look of a run lies between its start and its reach
-pub run_within : (log : List (List ℕ)) (cap start : ℕ) (looks : List LookMade) → IsRun start looks → All (IsTrueOf log cap) looks
+pub run_within : (log : List (List ℕ)) (start : ℕ) (looks : List LookMade) → IsRun start looks → All (IsTrueOf log) looks
     → All (LiesIn start (reach start looks)) looks
-run_within log cap start [] run so = All-nil (LiesIn start start)
-run_within log cap start (look ∷ looks) run so =
+run_within log start [] run so = All-nil (LiesIn start start)
+run_within log start (look ∷ looks) run so =
     let end : ℕ = reach (after look) looks in
-    let moved : look.position ≤ after look = moves log cap look.position look.found (All-head (IsTrueOf log cap) look looks so) in
-    let tail = All-tail (IsTrueOf log cap) look looks so in
-    let rest = run_within log cap (after look) looks run.1 tail in
+    let moved : look.position ≤ after look = moves log look.capacity look.position look.found (All-head (IsTrueOf log) look looks so) in
+    let tail = All-tail (IsTrueOf log) look looks so in
+    let rest = run_within log (after look) looks run.1 tail in
     let from : start ≤ look.position = omega (arith, run.0) in
-    let to : after look ≤ end = reaches log cap (after look) looks run.1 tail in
+    let to : after look ≤ end = reaches log (after look) looks run.1 tail in
     All-cons (LiesIn start end) look looks (from, to)
     (All-weaker (LiesIn (after look) end) (LiesIn start end) (λ l h. (omega (arith, h.0, moved, from), h.1)) looks rest)
 
 -- and none is before the place after an earlier one
-pub run_on : (log : List (List ℕ)) (cap start : ℕ) (looks : List LookMade) → IsRun start looks → All (IsTrueOf log cap) looks
+pub run_on : (log : List (List ℕ)) (start : ℕ) (looks : List LookMade) → IsRun start looks → All (IsTrueOf log) looks
     → AllPairs (λ earlier later. after earlier ≤ later.position) looks
-run_on log cap start [] run so = λ i j d below within. absurd (omega (arith, within))
-run_on log cap start (look ∷ looks) run so =
-    let tail = All-tail (IsTrueOf log cap) look looks so in
-    let rest = run_within log cap (after look) looks run.1 tail in
+run_on log start [] run so = λ i j d below within. absurd (omega (arith, within))
+run_on log start (look ∷ looks) run so =
+    let tail = All-tail (IsTrueOf log) look looks so in
+    let rest = run_within log (after look) looks run.1 tail in
     let past : All (λ l. after look ≤ l.position) looks =
     All-weaker (LiesIn (after look) (reach (after look) looks)) (λ l. after look ≤ l.position) (λ l h. h.0) looks rest in
-    AllPairs-cons (λ earlier later. after earlier ≤ later.position) look looks past (run_on log cap (after look) looks run.1 tail)
+    AllPairs-cons (λ earlier later. after earlier ≤ later.position) look looks past (run_on log (after look) looks run.1 tail)

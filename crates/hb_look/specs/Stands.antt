@@ -1,19 +1,21 @@
 -- When looks stand for a log: what they found is so in it, and none goes back.
 use Rattle.std.specs.Prelude.{◌≡◌, ℕ, ◌+◌, ◌<◌, ◌≤◌, List, length, slice_get, Some}
 use Rattle.std.specs.List.{All, AllPairs}
-use Rattle.hb_look.specs.Looks.{Found, Got, Gone, NotYet, LookMade}
+use Rattle.hb_look.specs.Looks.{Found, Got, Gone, NotYet, LookMade, oldest}
 
--- What was found at a position is so in the log of a ring of this capacity. A record that was got is the log's. Where it was
--- gone, the write of record number `next + cap` had begun, which overwrites the one before `next`.
+-- What was found at a position is so in the log of a ring of this capacity. A record that was got
+-- is the log's. Where it was gone, so is each before `next`, for the log's records and one more
+-- that may have been begun.
 abbrev pub IsSo : List (List ℕ) → ℕ → ℕ → Found → Type 0
 IsSo log cap position (Got bytes) = slice_get log position ≡ Some bytes
-IsSo log cap position (Gone next) = (position < next) × (next + cap + 1 ≤ length log + 1)
+IsSo log cap position (Gone next) = (position < next) × (next ≤ oldest cap (length log + 1))
 IsSo log cap position NotYet = Unit {0}
 
-abbrev pub IsTrueOf : List (List ℕ) → ℕ → LookMade → Type 0
-IsTrueOf log cap look = IsSo log cap look.position look.found
+abbrev pub IsTrueOf : List (List ℕ) → LookMade → Type 0
+IsTrueOf log look = IsSo log look.capacity look.position look.found
 
--- what a later look may find, after one that found this: nothing that an earlier state of the ring would answer
+-- What a later look may find, at a ring of this capacity, after one that found this: nothing that
+-- an earlier state of the ring would answer.
 abbrev pub MayFollow : ℕ → ℕ → Found → ℕ → Found → Type 0
 MayFollow cap position (Got bytes) later NotYet = position < later
 MayFollow cap position (Got bytes) later (Got more) = Unit {0}
@@ -24,10 +26,11 @@ MayFollow cap position (Gone next) later (Gone further) = next ≤ further
 MayFollow cap position NotYet later found = Unit {0}
 
 -- the second look does not go back behind the first
-abbrev pub GoesOn : ℕ → LookMade → LookMade → Type 0
-GoesOn cap earlier later = MayFollow cap earlier.position earlier.found later.position later.found
+abbrev pub GoesOn : LookMade → LookMade → Type 0
+GoesOn earlier later =
+    MayFollow later.capacity earlier.position earlier.found later.position later.found
 
--- Looks stand for the log of a ring of this capacity.
-pub record LooksStandFor (log : List (List ℕ)) (cap : ℕ) (looks : List LookMade) : Type 0 where
-  pub are_true : All (IsTrueOf log cap) looks
-  pub go_on : AllPairs (GoesOn cap) looks
+-- Looks stand for a log.
+pub record LooksStandFor (log : List (List ℕ)) (looks : List LookMade) : Type 0 where
+  pub are_true : All (IsTrueOf log) looks
+  pub go_on : AllPairs GoesOn looks

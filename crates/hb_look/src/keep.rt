@@ -1,6 +1,7 @@
 //! The writer of a ring.
-ghost use Rattle.std.specs.Prelude.{◌≡◌, ◌≢◌, ◌↔◌, ℕ, ◌+◌, ◌<◌, ◌≤◌, List, [], ◌∷◌, ◌++◌, length};
+ghost use Rattle.std.specs.Prelude.{◌≡◌, ◌≢◌, ◌↔◌, ◌<◌, ◌≤◌, [], ◌∷◌, length};
 ghost use Rattle.hb_look.specs.Limits.{most_records};
+ghost use Rattle.hb_look.specs.Progress.{HasPut};
 
 /// What became of a record that was put. After each answer but `Done` the ring is as it was.
 #[derive(Clone, Copy, Debug, PartialEq, Eq)]
@@ -28,22 +29,19 @@ pub trait Keep {
     /// The most bytes of a record.
     ghost longest: { Self → ℕ };
 
-    /// What no call changes: the loans that it holds, and the ring's limits.
+    /// What no call changes: the loans that it holds, and the ring's other limits.
     ghost Fixed: { Type 0 };
 
     ghost fixed: { Self → Self.Fixed };
 
     /// Puts a copy of the record at the next position.
     fn put(&mut self, bytes: &[u8]) -> Put
-        ensures done { result ≡ Put.Done → (log : List (List ℕ)) → stands_for self.old log
-            → stands_for self.new (log ++ bytes.now ∷ []) }
+        ensures done { result ≡ Put.Done
+            → HasPut stands_for written longest fixed self.old self.new (bytes.now ∷ []) }
         ensures too_long { (result ≡ Put.TooLong) ↔ (longest self.old < length bytes.now) }
         ensures spent { (result ≡ Put.Spent)
             ↔ ((length bytes.now ≤ longest self.old) × (written self.old ≡ most_records)) }
-        ensures kept { result ≢ Put.Done → self.new ≡ self.old }
-        ensures written { result ≡ Put.Done → written self.new ≡ written self.old + 1 }
-        ensures limits { longest self.new ≡ longest self.old }
-        ensures fixed { fixed self.new ≡ fixed self.old };
+        ensures kept { result ≢ Put.Done → self.new ≡ self.old };
 
     /// The number of records is the log's length.
     ghost counts: { (w : Self) (log : List (List ℕ)) → stands_for w log → length log ≡ written w };
