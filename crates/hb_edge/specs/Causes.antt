@@ -1,4 +1,5 @@
--- When a count of faults, of waits or of refusals says that a call failed, had to wait, or was refused memory.
+-- When a count of faults, of waits or of refusals says that a call failed, had to wait, or was
+-- refused memory.
 use Rattle.std.specs.Prelude.{ℕ, ◌+◌, ◌-◌, ◌^◌, ◌≤◌, min}
 
 -- a count has risen; one that stands at its greatest value counts as risen

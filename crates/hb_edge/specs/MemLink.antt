@@ -1,13 +1,14 @@
 -- A link in memory: what it is, and what a read or a write answers and leaves.
-use Rattle.std.specs.Prelude.{◌≡◌, ℕ, ◌≤◌, Bool, true, false, List, [], ◌∷◌, length, take, drop, min, if◌then◌else◌}
+use Rattle.std.specs.Prelude.{◌≡◌, ℕ, ◌≤◌, ◌++◌, Bool, true, false, List, [], ◌∷◌, length, take, drop, min, if◌then◌else◌}
 use Rattle.hb_edge.specs.declared.link.Moved.{Moved}
 use Rattle.hb_edge.specs.declared.link.Moved.TheVariants.{Took, NotYet, End, Failed}
-use Rattle.hb_edge.specs.Link.{written}
+use Rattle.hb_edge.specs.Link.{Shown, taken_of}
 use Rattle.hb_edge.specs.Plan.{one_more, is_planned}
 
--- the bytes written to it, those that wait to be read, whether its far side has ended, whether it is held, the most that one
--- call moves, the numbers of the calls to fail, how many calls there were, how many failed, how many reads and writes had to
--- wait, in how many memory was refused, and its key
+-- the bytes written to it, those that wait to be read, whether its far side has ended, whether it
+-- is held, the most that one call moves, the numbers of the calls to fail, how many calls there
+-- were, how many failed, how many reads and writes had to wait, in how many memory was refused,
+-- and its key
 pub record LinkState : Type 0 where
   pub taken : List ℕ
   pub unread : List ℕ
@@ -21,6 +22,16 @@ pub record LinkState : Type 0 where
   pub write_waits : ℕ
   pub refusals : ℕ
   pub key : ℕ
+
+-- what it shows of its calls
+abbrev pub shown : LinkState → Shown
+shown s = record {
+  faults = s.faults;
+  read_waits = s.read_waits;
+  write_waits = s.write_waits;
+  refusals = s.refusals;
+  key = s.key;
+}
 
 -- a read of these bytes: as many as wait and are allowed, and with none the end, where it is there
 abbrev pub front_answer : List ℕ → Bool → ℕ → Moved
@@ -36,7 +47,8 @@ ReadsFront unread ended Failed buffer = ⊥
 
 -- a read fails where the plan says so, else gives as much as it may
 abbrev pub read_answer : LinkState → ℕ → Moved
-read_answer s room = if is_planned s.fails (one_more s.calls) then Failed else front_answer s.unread s.ended (min room s.most)
+read_answer s room = if is_planned s.fails (one_more s.calls) then Failed
+    else front_answer s.unread s.ended (min room s.most)
 
 -- a write fails where the plan says so, waits where the link is held, else takes as much as it may
 abbrev pub write_answer : LinkState → List ℕ → Moved
@@ -76,7 +88,7 @@ read_after s room = record s {
 -- the link after a write for which memory was not refused
 abbrev pub write_after : LinkState → List ℕ → LinkState
 write_after s piece = record s {
-  taken = written s.taken piece (write_answer s piece);
+  taken = s.taken ++ taken_of piece (write_answer s piece);
   calls = one_more s.calls;
   faults = faults_after (write_answer s piece) s.faults;
   write_waits = waits_after (write_answer s piece) s.write_waits;

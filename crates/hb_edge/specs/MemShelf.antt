@@ -7,7 +7,8 @@ use Rattle.hb_edge.specs.declared.shelf.Shelved.{Shelved}
 use Rattle.hb_edge.specs.declared.shelf.Shelved.TheVariants.{Took, End, Failed}
 use Rattle.hb_edge.specs.Plan.{one_more, is_planned}
 
--- each file's name and bytes, the numbers of the calls to fail, how many calls there were, and how many failed
+-- each file's name and bytes, the numbers of the calls to fail, how many calls there were, and
+-- how many failed
 pub record ShelfState : Type 0 where
   pub stored : List (List ℕ × List ℕ)
   pub fails : List ℕ
@@ -26,11 +27,13 @@ file_of stored name = lookup (bytes_eq name) stored
 -- a read of a file: as many bytes as the buffer and the file allow
 abbrev pub file_answer : Option (List ℕ) → ℕ → ℕ → Shelved
 file_answer None at room = Failed
-file_answer (Some file) at room = if nat_le (length file) at then End else Took (min (length file - at) room)
+file_answer (Some file) at room = if nat_le (length file) at then End
+    else Took (min (length file - at) room)
 
 -- a read fails where the plan says so or there is no such file
 abbrev pub shelf_answer : ShelfState → List ℕ → ℕ → ℕ → Shelved
-shelf_answer s name at room = if is_planned s.fails (one_more s.calls) then Failed else file_answer (file_of s.stored name) at room
+shelf_answer s name at room = if is_planned s.fails (one_more s.calls) then Failed
+    else file_answer (file_of s.stored name) at room
 
 -- a count of faults after this answer
 abbrev pub counted : Shelved → ℕ → ℕ
@@ -40,4 +43,5 @@ counted Failed faults = one_more faults
 
 -- the shelf after a read
 abbrev pub shelf_after : ShelfState → List ℕ → ℕ → ℕ → ShelfState
-shelf_after s name at room = record s { calls = one_more s.calls; faults = counted (shelf_answer s name at room) s.faults }
+shelf_after s name at room =
+    record s { calls = one_more s.calls; faults = counted (shelf_answer s name at room) s.faults }

@@ -19,4 +19,5 @@ ReadsFile file at Failed buffer = Unit {0}
 ReadsFile None at (Took n) buffer = ⊥
 ReadsFile None at End buffer = ⊥
 ReadsFile (Some file) at End buffer = length file ≤ at
-ReadsFile (Some file) at (Took n) buffer = (at + n ≤ length file) × (take n buffer ≡ take n (drop at file))
+ReadsFile (Some file) at (Took n) buffer = (at + n ≤ length file)
+    × (take n buffer ≡ take n (drop at file))

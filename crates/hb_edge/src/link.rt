@@ -1,8 +1,8 @@
 //! A two-way connection to a far side.
-ghost use Rattle.std.specs.Prelude.{◌≡◌, ◌⊎◌, ◌<◌, ◌≤◌, length, Some};
+ghost use Rattle.std.specs.Prelude.{◌≡◌, ◌⊎◌, ◌<◌, length};
 ghost use Rattle.std.specs.Option.{ForSome};
 ghost use Rattle.hb_edge.specs.Causes.{Rose};
-ghost use Rattle.hb_edge.specs.Link.{ReadWithin, ReadsHeld, WrittenWithin, written};
+ghost use Rattle.hb_edge.specs.Link.{ReadWithin, ReadsHeld, WrittenWithin, IsShownLater, HasWritten, taken_of};
 
 /// What a read or a write of a link answers.
 #[derive(Clone, Copy, Debug, PartialEq, Eq)]
@@ -21,25 +21,13 @@ pub enum Moved {
 pub trait Link {
     ghost use Rattle.std.specs.Prelude.{ℕ, List, Option};
     ghost use Rattle.hb_edge.specs.declared.link.Moved.{Moved};
-    ghost use Rattle.hb_edge.specs.Link.{Held};
+    ghost use Rattle.hb_edge.specs.Link.{Held, Shown};
 
     /// What it holds, where it tells.
     ghost held: { Self → Option Held };
 
-    /// How many of its calls failed. The count stops at 2^64 - 1.
-    ghost faults: { Self → ℕ };
-
-    /// How many reads answered `NotYet`. The count stops at 2^64 - 1.
-    ghost read_waits: { Self → ℕ };
-
-    /// How many writes answered `NotYet`. The count stops at 2^64 - 1.
-    ghost write_waits: { Self → ℕ };
-
-    /// The number that it is told apart by. No call changes it.
-    ghost key: { Self → ℕ };
-
-    /// In how many of its calls memory was refused. The count stops at 2^64 - 1.
-    ghost refusals: { Self → ℕ };
+    /// Its counts of faults, of waits and of refusals, and its key.
+    ghost shown: { Self → Shown };
 
     /// What a read answers: by the buffer's length.
     ghost read_answer: { Self → ℕ → Moved };
@@ -63,54 +51,48 @@ pub trait Link {
         requires { 0 < length buf.old }
         ensures within { ReadWithin result (length buf.old) }
         ensures room { length buf.new ≡ length buf.old }
-        ensures later { (faults self.old ≤ faults self.new)
-            × (read_waits self.old ≤ read_waits self.new)
-            × (write_waits self.old ≤ write_waits self.new) }
-        ensures cause { result ≡ Moved.Failed → Rose (faults self.old) (faults self.new) }
+        ensures later { IsShownLater (shown self.old) (shown self.new) }
+        ensures cause { result ≡ Moved.Failed
+            → Rose (shown self.old).faults (shown self.new).faults }
         ensures waits { result ≡ Moved.NotYet
-            → Rose (read_waits self.old) (read_waits self.new) }
+            → Rose (shown self.old).read_waits (shown self.new).read_waits }
         ensures told { ForSome (held self.old)
             (λ h. ReadsHeld h result buf.new (held self.new)) }
         ensures exact { ForSome (held self.old)
             (λ _. (result ≡ read_answer self.old (length buf.old))
             × (self.new ≡ read_after self.old (length buf.old))) }
-        ensures kept { refusals self.new ≡ refusals self.old }
-        ensures key { key self.new ≡ key self.old }
+        ensures kept { (shown self.new).refusals ≡ (shown self.old).refusals }
         ensures fixed { fixed self.new ≡ fixed self.old };
 
     /// Takes bytes from the front of the piece, at least one.
     fn poll_write(&mut self, piece: &[u8]) -> Moved
         requires { 0 < length piece.now }
         ensures within { WrittenWithin result (length piece.now) }
-        ensures later { (faults self.old ≤ faults self.new)
-            × (read_waits self.old ≤ read_waits self.new)
-            × (write_waits self.old ≤ write_waits self.new)
-            × (refusals self.old ≤ refusals self.new) }
-        ensures cause { result ≡ Moved.Failed → Rose (faults self.old) (faults self.new) }
+        ensures written { HasWritten shown held write_after fixed self.old self.new
+            (taken_of piece.now result) }
+        ensures cause { result ≡ Moved.Failed
+            → Rose (shown self.old).faults (shown self.new).faults }
         ensures waits { result ≡ Moved.NotYet
-            → Rose (write_waits self.old) (write_waits self.new) }
-        ensures told { ForSome (held self.old)
-            (λ h. held self.new ≡ Some (record h { taken = written h.taken piece.now result })) }
+            → Rose (shown self.old).write_waits (shown self.new).write_waits }
         ensures exact { ForSome (held self.old) (λ _.
             ((result ≡ write_answer self.old piece.now)
             × (self.new ≡ write_after self.old piece.now))
-            ⊎ ((result ≡ Moved.Failed) × Rose (refusals self.old) (refusals self.new))) }
-        ensures key { key self.new ≡ key self.old }
-        ensures fixed { fixed self.new ≡ fixed self.old };
+            ⊎ ((result ≡ Moved.Failed)
+            × Rose (shown self.old).refusals (shown self.new).refusals)) };
 
-    /// How many calls failed.
+    /// How many calls failed. The count stops at 2^64 - 1.
     fn faults(&self) -> u64
-        ensures count { result ≡ faults self.now };
+        ensures count { result ≡ (shown self.now).faults };
 
-    /// How many reads had to wait.
+    /// How many reads answered `NotYet`. The count stops at 2^64 - 1.
     fn read_waits(&self) -> u64
-        ensures count { result ≡ read_waits self.now };
+        ensures count { result ≡ (shown self.now).read_waits };
 
-    /// How many writes had to wait.
+    /// How many writes answered `NotYet`. The count stops at 2^64 - 1.
     fn write_waits(&self) -> u64
-        ensures count { result ≡ write_waits self.now };
+        ensures count { result ≡ (shown self.now).write_waits };
 
-    /// The number that it is told apart by.
+    /// The number that it is told apart by. No call changes it.
     fn key(&self) -> u64
-        ensures value { result ≡ key self.now };
+        ensures value { result ≡ (shown self.now).key };
 }

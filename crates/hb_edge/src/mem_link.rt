@@ -1,7 +1,7 @@
 //! A link in memory, whose calls fail as planned.
 ghost use Rattle.std.specs.Prelude.{◌≡◌, ◌↔◌, ◌≤◌, ◌<◌, ◌-◌, ◌^◌, ◌++◌, [], length, take, drop, min, IfOk, IsOk, OnOk, OnErr, Some, true, false};
 ghost use Rattle.hb_edge.specs.Link.{ReadWithin};
-ghost use Rattle.hb_edge.specs.MemLink.{ReadsFront, front_answer, read_answer, read_after, write_answer, write_after};
+ghost use Rattle.hb_edge.specs.MemLink.{ReadsFront, front_answer, shown, read_answer, read_after, write_answer, write_after};
 
 use crate::{Link, Moved, NoMemory};
 use std::alloc::Global;
@@ -160,19 +160,11 @@ impl MemLink {
 }
 
 impl Link for MemLink {
-    ghost use Rattle.std.specs.Prelude.{ℕ, List};
+    ghost use Rattle.std.specs.Prelude.{ℕ, Bool, List};
 
     ghost held = { λ s. Some (record { taken = s.taken; unread = s.unread; ended = s.ended }) };
 
-    ghost faults = { λ s. s.faults };
-
-    ghost read_waits = { λ s. s.read_waits };
-
-    ghost write_waits = { λ s. s.write_waits };
-
-    ghost key = { λ s. s.key };
-
-    ghost refusals = { λ s. s.refusals };
+    ghost shown = { shown };
 
     ghost read_answer = { read_answer };
 
@@ -182,9 +174,9 @@ impl Link for MemLink {
 
     ghost write_after = { write_after };
 
-    ghost Fixed = { ℕ × List ℕ };
+    ghost Fixed = { ℕ × List ℕ × Bool };
 
-    ghost fixed = { λ s. (s.most, s.fails) };
+    ghost fixed = { λ s. (s.most, s.fails, s.held) };
 
     fn poll_read(&mut self, buf: &mut [u8]) -> Moved {
         self.calls = self.calls.saturating_add(1);
