@@ -1,6 +1,6 @@
--- What the bytes of a request read as, number by number, and its one canonical spelling. Of numbers the
--- last counts, the bodies of a Timestamp are read as one, and the bytes of fields that are not known are
--- kept.
+-- What the bytes of a request read as, number by number, and its one canonical spelling. Of
+-- numbers the last counts, the bodies of a Timestamp are read as one, and the bytes of fields
+-- that are not known are kept.
 use Rattle.std.specs.Prelude.{ℕ, zero, suc, ◌<◌, ◌^◌, Bool, true, false, List, [], ◌∷◌, ◌++◌, IfSome, if◌then◌else◌}
 use Rattle.std.specs.Option.{option_map}
 use Rattle.hb_wire.specs.Field.{spelling}
@@ -31,7 +31,8 @@ read_request bytes = record {
   unknown = unknown request_row (parts bytes);
 }
 
--- a GetFlowsRequest's canonical spelling: its fields, and then the bytes of those that are not known
+-- a GetFlowsRequest's canonical spelling: its fields, and then the bytes of those that are not
+-- known
 unfoldable pub request_bytes : GetFlowsRequest → List ℕ
 request_bytes r = spelling (number_field 1 r.number
     ++ message_field 7 (option_map stamp_bytes r.since)

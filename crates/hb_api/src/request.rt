@@ -107,6 +107,21 @@ impl GetFlowsRequest {
         }
     }
 
+    /// A copy in memory of its own.
+    pub fn try_clone(&self, alloc: Global) -> Result<GetFlowsRequest, NoMemory>
+        ensures ok { IfOk result (λ copy. copy ≡ self.now) }
+    {
+        let mut unknown = Seq::new(alloc)?;
+        unknown.extend_from_slice(self.unknown.as_slice())?;
+        Ok(GetFlowsRequest {
+            number: self.number,
+            first: self.first,
+            since: self.since,
+            until: self.until,
+            unknown,
+        })
+    }
+
     /// Appends the canonical spelling: fields by ascending number, with no defaults, and after them
     /// the bytes of those that are not known. At `Err` nothing is appended.
     pub fn write(&self, out: &mut Vec<u8>) -> Result<(), NoMemory>

@@ -230,6 +230,21 @@ fn requests_are_written(rt: HostRuntime) -> Result<(), Fail> {
     all_written(&rt, rt.alloc(), CANONICAL, 0, 0)
 }
 
+#[test]
+fn a_copy_is_the_same_request(rt: HostRuntime) -> Result<(), Fail> {
+    for row in rows(rt.alloc(), CANONICAL)? {
+        if let Ok(request) = GetFlowsRequest::read(rt.alloc(), &bytes(rt.alloc(), row.cell(0))?) {
+            let copy = request.try_clone(rt.alloc())?;
+            assert_eq!(rt;
+                request_words(rt.alloc(), &copy)?.as_str(),
+                row.cell(1),
+                "{row}"
+            );
+        }
+    }
+    Ok(())
+}
+
 /// Requests, how they are written anew, and what both read as.
 const ANEW: &str = "
     # True is 1, and false is not written.

@@ -1,65 +1,45 @@
--- A reply that is read backwards stands for the looks that were made for it, and for one more.
-use Rattle.std.proofs.Common.{◌≡◌, ℕ, ◌+◌, ◌-◌, ◌<◌, ◌≤◌, Bool, true, false, cond, ◌||◌, List, [], ◌∷◌, ◌++◌, Option, Some, None, refl, sym, ap, ◌∙◌, append_assoc, arith, length, subst, inl, inr}
+-- A window that is read backwards, with one more look.
+use Rattle.std.proofs.Common.{◌≡◌, ℕ, ◌+◌, ◌-◌, ◌<◌, ◌≤◌, Bool, true, false, cond, ◌||◌, List, [], ◌∷◌, ◌++◌, Option, Some, None, refl, sym, ap, ◌∙◌, arith, length, inl, inr}
 use Rattle.std.specs.Prelude.{nat_lt, nat_le, ◌==◌, reverse}
 use Rattle.std.specs.List.{filter, filter_map, last_or, cons_option}
 use Rattle.std.proofs.Math.Bool.{or-false}
-use Rattle.std.proofs.lemmas.Bool.{eq-eqb, ne_eqb, le-leb, lt-leb, cases_lt}
+use Rattle.std.proofs.lemmas.Bool.{eq-eqb, ne_eqb, le-leb, lt-leb, leb-false, cases_lt}
 use Rattle.std.proofs.lemmas.List.{append-nil, length-append, reverse-append}
 use Rattle.std.proofs.lemmas.List.Elements.{filter-append, filter_map-append}
-use Rattle.hb_look.specs.Looks.{LookMade}
+use Rattle.hb_look.specs.Looks.{Found, Got, Gone, LookMade}
 use Rattle.hb_flow.specs.declared.event.Event.{Event}
-use Rattle.hb_session.specs.declared.selection.Selection.{Selection}
-use Rattle.hb_session.specs.Events.{event_of_record, passes, is_flow, lost_event}
+use Rattle.hb_api.specs.declared.request.GetFlowsRequest.{GetFlowsRequest}
+use Rattle.hb_session.specs.Openings.{Opening, is_backward, are_enough}
+use Rattle.hb_session.specs.Events.{event_of_record, passes, is_flow, lost_event, flows}
 use Rattle.hb_session.specs.Marks.{Record}
-use Rattle.hb_session.specs.Forward.{given_of, flows}
-use Rattle.hb_session.specs.Backward.{event_found, read_backward, gone_after, gone_last, backward_has_ended}
-use Rattle.hb_session.specs.Replies.{Opening, is_backward, event_frame, reply, has_ended, ok_frame, AreMade}
-use Rattle.hb_session.specs.Steps.{ReplyState, frames, next_place, held_with, release, kept_backward, is_enough, backward_read, backward_gone}
-use Rattle.hb_session.specs.Stands.{IsOnBackward, IsOnBy, ReplyStandsFor}
-use Rattle.hb_session.proofs.Windows.{got, gone}
-use Rattle.hb_session.proofs.Ways.{ended_backward, reply_backward, place_backward, next_backward, counted_backward}
-use Rattle.hb_session.proofs.Made.{plus, made_more}
-use Rattle.hb_session.proofs.Forwards.{flows_more, frames_more, given}
+use Rattle.hb_session.specs.Forward.{given_of}
+use Rattle.hb_session.specs.Backward.{event_found, read_newest, gone_from, gone_after, gone_last, backward_has_ended}
+use Rattle.hb_session.specs.Replies.{reply, has_ended}
+use Rattle.hb_session.specs.Steps.{Step, Backward, bytes_of, is_done, backward_place, kept, released, held_on, backward_read, backward_gone}
+use Rattle.hb_session.specs.Stands.{IsOnBackward}
+use Rattle.hb_session.proofs.Replies.{ended_backward, reply_backward, plus, bytes_more, flows_more, events_of, GivesMore}
 use Rattle.hb_session.proofs.Bools.{first_false, or_true, when_false, when_true}
 
--- what is known of a reply that goes on backwards
-pub record GoesOnBackward (r : ReplyState) (looks : List LookMade) (taken : List ℕ) : Type 0 where
-  pub backwards : is_backward r.opening.selection ≡ true
-  pub made : AreMade r.opening looks
-  pub not : has_ended r.opening looks ≡ false
-  pub fewer : length looks < r.opening.size
-  pub none : taken ++ r.waiting ≡ []
-  pub going : r.ended ≡ false
-  pub counts : r.counts ≡ record { given = 0; skipped = 0; lost = 0 }
-  pub on : IsOnBackward r looks
+-- what is known of a window that goes on backwards
+pub record GoesBackward (o : Opening) (b : Backward) (looks : List LookMade) : Type 0 where
+  pub not : has_ended o looks ≡ false
+  pub none : reply o looks ≡ []
+  pub fewer : length looks < o.size
+  pub on : IsOnBackward o b looks
 
-pub goes_on_backward : (r : ReplyState) (looks : List LookMade) (taken : List ℕ) → is_backward r.opening.selection ≡ true → r.ended ≡ false
-    → ReplyStandsFor r looks taken → GoesOnBackward r looks taken
-goes_on_backward r looks taken backwards going stands =
-    let o = r.opening in
-    let not : has_ended o looks ≡ false = sym stands.ended ∙ going in
-    let open_is : backward_has_ended o.selection o.low o.size looks ≡ false = sym (ended_backward o looks backwards) ∙ not in
-    let few : nat_le o.size (length looks) ≡ false = first_false (nat_le o.size (length looks)) _ open_is in
-    let nothing : reply o looks ≡ [] = reply_backward o looks backwards ∙ when_false (backward_has_ended o.selection o.low o.size looks) _ [] open_is in record {
-      backwards = backwards;
-      made = stands.made;
+pub goes_backward : (o : Opening) (b : Backward) (looks : List LookMade) → has_ended o looks ≡ false → IsOnBackward o b looks → GoesBackward o b looks
+goes_backward o b looks not on =
+    let going : backward_has_ended o looks ≡ false = sym (ended_backward o looks on.way) ∙ not in record {
       not = not;
-      fewer = elim (cases_lt (length looks) o.size) [
-        | inl less ↦ less
-        | inr more ↦ absurd (let yes : nat_le o.size (length looks) ≡ true = le-leb o.size (length looks) more in cc)
-      ];
-      none = stands.owed ∙ ap (λ (b : Bool). frames o.name (reply o looks) ++ cond b ok_frame []) not
-          ∙ append-nil (frames o.name (reply o looks)) ∙ ap (frames o.name) nothing;
-      going = going;
-      counts = stands.counts ∙ counted_backward o looks backwards;
-      on = subst (λ (b : Bool). IsOnBy b r looks) backwards (stands.on going);
+      none = reply_backward o looks on.way ∙ when_false (backward_has_ended o looks) _ [] going;
+      fewer = leb-false o.size (length looks) (first_false (nat_le o.size (length looks)) _ going);
+      on = on;
     }
 
-look_made : (r : ReplyState) (looks : List LookMade) (taken : List ℕ) (look : LookMade) → GoesOnBackward r looks taken → look.position ≡ next_place r
-    → AreMade r.opening (plus looks look)
-look_made r looks taken look is at =
-    made_more r.opening [] looks look is.made is.not
-    (at ∙ next_backward r is.backwards ∙ ap (λ (n : ℕ). r.opening.low + r.opening.size - 1 - n) is.on.passed ∙ sym (place_backward r.opening looks is.backwards))
+-- a step backwards is that of more looks
+pub record IsBackwardStep (o : Opening) (looks new : List LookMade) (step : Step Backward) : Type 0 where
+  pub gives : GivesMore o looks new step.put step.ended
+  pub on : step.ended ≡ false → IsOnBackward o step.state new
 
 last_more : (d : Option LookMade) (looks : List LookMade) (look : LookMade) → last_or d (plus looks look) ≡ Some look
 last_more d [] look = refl
@@ -73,188 +53,159 @@ least_is n m most =
       | inr more ↦ le-leb m n more ∙ sym (eq-eqb n m (omega (arith, most, more)))
     ]
 
-one_passes : (s : Selection) (event : Option Event) → filter (passes s) (cons_option event []) ≡ given_of s (Record event)
-one_passes s None = refl
-one_passes s (Some event) = refl
+one_passes : (r : GetFlowsRequest) (event : Option Event) → filter (passes r) (cons_option event []) ≡ given_of r (Record event)
+one_passes r None = refl
+one_passes r (Some event) = refl
 
 turned_if : (b : Bool) (event : Event) → reverse (cond b (event ∷ []) []) ≡ cond b (event ∷ []) []
 turned_if true event = refl
 turned_if false event = refl
 
-one_turned : (s : Selection) (event : Option Event) → reverse (given_of s (Record event)) ≡ given_of s (Record event)
-one_turned s None = refl
-one_turned s (Some event) = turned_if (passes s event) event
+one_turned : (r : GetFlowsRequest) (event : Option Event) → reverse (given_of r (Record event)) ≡ given_of r (Record event)
+one_turned r None = refl
+one_turned r (Some event) = turned_if (passes r event) event
 
--- the events that pass, with one more record
-read_more : (s : Selection) (looks : List LookMade) (position moment : ℕ) (bytes : List ℕ)
-    → read_backward s (plus looks (got position moment bytes)) ≡ read_backward s looks ++ given_of s (Record (event_of_record bytes))
-read_more s looks position moment bytes =
-    ap (filter (passes s)) (filter_map-append (λ look. event_found look.found) looks (got position moment bytes ∷ []))
-    ∙ filter-append (passes s) (filter_map (λ look. event_found look.found) looks) (cons_option (event_of_record bytes) [])
-    ∙ ap (λ (es : List Event). read_backward s looks ++ es) (one_passes s (event_of_record bytes))
+-- the events that pass, with what one more look found
+newest_more : (r : GetFlowsRequest) (looks : List LookMade) (look : LookMade)
+    → read_newest r (plus looks look) ≡ read_newest r looks ++ filter (passes r) (cons_option (event_found look.found) [])
+newest_more r looks look =
+    ap (filter (passes r)) (filter_map-append (λ look. event_found look.found) looks (look ∷ []))
+    ∙ filter-append (passes r) (filter_map (λ look. event_found look.found) looks) (cons_option (event_found look.found) [])
 
--- and with what is gone
-gone_more : (s : Selection) (looks : List LookMade) (position moment next : ℕ)
-    → read_backward s (plus looks (gone position moment next)) ≡ read_backward s looks
-gone_more s looks position moment next =
-    ap (filter (passes s)) (filter_map-append (λ look. event_found look.found) looks (gone position moment next ∷ []))
-    ∙ filter-append (passes s) (filter_map (λ look. event_found look.found) looks) []
-    ∙ append-nil (read_backward s looks)
+-- a record
+newest_got : (r : GetFlowsRequest) (looks : List LookMade) (look : LookMade) (bytes : List ℕ) → look.found ≡ Got bytes
+    → read_newest r (plus looks look) ≡ read_newest r looks ++ given_of r (Record (event_of_record bytes))
+newest_got r looks look bytes found =
+    newest_more r looks look
+    ∙ ap (λ (f : Found). read_newest r looks ++ filter (passes r) (cons_option (event_found f) [])) found
+    ∙ ap (λ (es : List Event). read_newest r looks ++ es) (one_passes r (event_of_record bytes))
+
+-- or that it is gone
+newest_gone : (r : GetFlowsRequest) (looks : List LookMade) (look : LookMade) (next : ℕ) → look.found ≡ Gone next
+    → read_newest r (plus looks look) ≡ read_newest r looks
+newest_gone r looks look next found =
+    newest_more r looks look
+    ∙ ap (λ (f : Found). read_newest r looks ++ filter (passes r) (cons_option (event_found f) [])) found
+    ∙ append-nil (read_newest r looks)
 
 -- what a record that was read leaves
-pub record KeepLeaves (r new : ReplyState) (events : List Event) : Type 0 where
-  pub opening : new.opening ≡ r.opening
-  pub passed : new.passed ≡ r.passed + 1
-  pub flows : new.flows ≡ r.flows + flows events
-  pub held : new.held ≡ frames r.opening.name events ++ r.held
-  pub waiting : new.waiting ≡ r.waiting
-  pub ended : new.ended ≡ r.ended
-  pub counts : new.counts ≡ r.counts
+pub record KeepLeaves (o : Opening) (b new : Backward) (events : List Event) : Type 0 where
+  pub passed : new.passed ≡ b.passed + 1
+  pub flows : new.flows ≡ b.flows + flows events
+  pub held : new.held ≡ bytes_of o events ++ b.held
 
-keeps_none : (r : ReplyState) → KeepLeaves r (kept_backward r None) []
-keeps_none r = record { opening = refl; passed = refl; flows = omega arith; held = refl; waiting = refl; ended = refl; counts = refl }
+keeps_none : (o : Opening) (b : Backward) → KeepLeaves o b (kept o b None) []
+keeps_none o b = record { passed = refl; flows = omega arith; held = refl }
 
-keeps_by : (r : ReplyState) (event : Event) (b : Bool)
-    → KeepLeaves r (cond b (record (held_with r event) { passed = r.passed + 1; flows = r.flows + cond (is_flow event) 1 0 }) (record r { passed = r.passed + 1 })) (cond b (event ∷ []) [])
-keeps_by r event true = record {
-  opening = refl;
-  passed = refl;
-  flows = omega arith;
-  waiting = refl;
-  ended = refl;
-  counts = refl;
-  held = ap (λ (b : List ℕ). b ++ r.held) (sym (append-nil (event_frame r.opening.name event)));
-}
-keeps_by r event false = keeps_none r
+keeps_by : (o : Opening) (b : Backward) (event : Event) (choice : Bool)
+    → KeepLeaves o b (cond choice (record { passed = b.passed + 1; flows = b.flows + cond (is_flow event) 1 0; held = bytes_of o (event ∷ []) ++ b.held }) (record b { passed = b.passed + 1 }))
+    (cond choice (event ∷ []) [])
+keeps_by o b event true = record { passed = refl; flows = omega arith; held = refl }
+keeps_by o b event false = keeps_none o b
 
-pub keeps : (r : ReplyState) (event : Option Event) → KeepLeaves r (kept_backward r event) (given r event)
-keeps r None = keeps_none r
-keeps r (Some event) = keeps_by r event (passes r.opening.selection event)
+pub keeps : (o : Opening) (b : Backward) (event : Option Event) → KeepLeaves o b (kept o b event) (events_of o event)
+keeps o b None = keeps_none o b
+keeps o b (Some event) = keeps_by o b event (passes o.request event)
 
 -- ---- the end of the reply, where it has come
 
--- what is to be known of a reply, before what it holds is sent where it has ended
-record IsHeldOf (r : ReplyState) (looks : List LookMade) (taken : List ℕ) : Type 0 where
-  pub backwards : is_backward r.opening.selection ≡ true
-  pub made : AreMade r.opening looks
-  pub none : taken ++ r.waiting ≡ []
-  pub held : r.held ≡ frames r.opening.name (gone_last r.opening.low looks ++ reverse (read_backward r.opening.selection looks))
-  pub going : r.ended ≡ false
-  pub counts : r.counts ≡ record { given = 0; skipped = 0; lost = 0 }
-  pub on : backward_has_ended r.opening.selection r.opening.low r.opening.size looks ≡ false → IsOnBackward r looks
+-- what is to be known before what is held is put where the reply has ended
+record Holds (o : Opening) (b : Backward) (looks new : List LookMade) : Type 0 where
+  way : is_backward o.request ≡ true
+  none : reply o looks ≡ []
+  held : b.held ≡ bytes_of o (gone_last o.low new ++ reverse (read_newest o.request new))
+  on : backward_has_ended o new ≡ false → IsOnBackward o b new
 
-held_by : (r : ReplyState) (looks : List LookMade) (taken : List ℕ) (b : Bool)
-    → backward_has_ended r.opening.selection r.opening.low r.opening.size looks ≡ b → IsHeldOf r looks taken → ReplyStandsFor (cond b (release r) r) looks taken
-held_by r looks taken true e is =
-    let o = r.opening in
-    let all : List Event = gone_last o.low looks ++ reverse (read_backward o.selection looks) in
-    let has : has_ended o looks ≡ true = ended_backward o looks is.backwards ∙ e in
-    let events : reply o looks ≡ all = reply_backward o looks is.backwards ∙ when_true (backward_has_ended o.selection o.low o.size looks) all [] e in record {
-      made = is.made;
-      owed = ap (λ (b : List ℕ). taken ++ b) (append_assoc r.waiting r.held ok_frame)
-          ∙ sym (append_assoc taken r.waiting (r.held ++ ok_frame))
-          ∙ ap (λ (b : List ℕ). b ++ (r.held ++ ok_frame)) is.none
-          ∙ ap (λ (b : List ℕ). b ++ ok_frame) (is.held ∙ ap (frames o.name) (sym events))
-          ∙ ap (λ (b : Bool). frames o.name (reply o looks) ++ cond b ok_frame []) (sym has);
-      ended = sym has;
-      counts = is.counts ∙ sym (counted_backward o looks is.backwards);
-      on = λ h. absurd cc;
-    }
-held_by r looks taken false e is =
-    let o = r.opening in
-    let all : List Event = gone_last o.low looks ++ reverse (read_backward o.selection looks) in
-    let has : has_ended o looks ≡ false = ended_backward o looks is.backwards ∙ e in
-    let events : reply o looks ≡ [] = reply_backward o looks is.backwards ∙ when_false (backward_has_ended o.selection o.low o.size looks) all [] e in record {
-      made = is.made;
-      owed = is.none ∙ ap (frames o.name) (sym events) ∙ sym (append-nil (frames o.name (reply o looks)))
-          ∙ ap (λ (b : Bool). frames o.name (reply o looks) ++ cond b ok_frame []) (sym has);
-      ended = is.going ∙ sym has;
-      counts = is.counts ∙ sym (counted_backward o looks is.backwards);
-      on = λ h. subst (λ (b : Bool). IsOnBy b r looks) (sym is.backwards) (is.on e);
-    }
+module _ (o : Opening) (b : Backward) (looks new : List LookMade) (is : Holds o b looks new) where
+  released_step : backward_has_ended o new ≡ true → IsBackwardStep o looks new (released b)
+  released_step e =
+      let all : List Event = gone_last o.low new ++ reverse (read_newest o.request new) in record {
+        gives = record {
+          events = all;
+          more = reply_backward o new is.way ∙ when_true (backward_has_ended o new) all [] e ∙ ap (λ (es : List Event). es ++ all) (sym is.none);
+          bytes = is.held;
+          at_end = sym (ended_backward o new is.way ∙ e);
+        };
+        on = λ not. absurd cc;
+      }
 
--- ---- a record is read
+  held_step : backward_has_ended o new ≡ false → IsBackwardStep o looks new (held_on b)
+  held_step e = record {
+    gives = record {
+      events = [];
+      more = reply_backward o new is.way ∙ when_false (backward_has_ended o new) _ [] e ∙ ap (λ (es : List Event). es ++ []) (sym is.none);
+      bytes = refl;
+      at_end = sym (ended_backward o new is.way ∙ e);
+    };
+    on = λ _. is.on e;
+  }
 
-read_held : (r new : ReplyState) (looks : List LookMade) (taken : List ℕ) (moment : ℕ) (bytes : List ℕ) → GoesOnBackward r looks taken
-    → KeepLeaves r new (given r (event_of_record bytes))
-    → (is_enough (record new { opening = r.opening })
-    ≡ backward_has_ended r.opening.selection r.opening.low r.opening.size (plus looks (got (next_place r) moment bytes)))
-    × IsHeldOf (record new { opening = r.opening }) (plus looks (got (next_place r) moment bytes)) taken
-read_held r new looks taken moment bytes is leaves =
-    let o = r.opening in
-    let s = o.selection in
-    let G = given r (event_of_record bytes) in
-    let look : LookMade = got (next_place r) moment bytes in
-    let looks' : List LookMade = plus looks look in
-    let longer : length looks' ≡ length looks + 1 = length-append looks (look ∷ []) in
-    let passed : new.passed ≡ length looks' = omega (arith, leaves.passed, is.on.passed, longer) in
-    let more = read_more s looks (next_place r) moment bytes in
-    let counted_more = ap flows more ∙ flows_more (read_backward s looks) G in
-    let flows_are : new.flows ≡ flows (read_backward s looks') = omega (arith, leaves.flows, is.on.flows, counted_more) in
-    let last : gone_last o.low looks' ≡ [] = ap (λ (l : Option LookMade). gone_after o.low l) (last_more None looks look) in
-    let within : length looks' ≤ o.size = omega (arith, longer, is.fewer) in
-    let turned : reverse (read_backward s looks') ≡ G ++ reverse (read_backward s looks) =
-    ap reverse more ∙ reverse-append (read_backward s looks) G ∙ ap (λ (es : List Event). es ++ reverse (read_backward s looks)) (one_turned s (event_of_record bytes)) in
-    let held : new.held ≡ frames o.name (reverse (read_backward s looks')) =
-    leaves.held ∙ ap (λ (b : List ℕ). frames o.name G ++ b) is.on.held
-    ∙ sym (frames_more o.name G (reverse (read_backward s looks))) ∙ ap (frames o.name) (sym turned) in
-    let enough : Bool → ℕ → ℕ → Bool = λ full given gone. full || (nat_le s.number given || nat_lt 0 gone) in (
-      ap (λ (n : ℕ). (n == o.size) || nat_le s.number new.flows) passed
-          ∙ ap (λ (b : Bool). b || nat_le s.number new.flows) (sym (least_is (length looks') o.size within))
-          ∙ ap (λ (n : ℕ). nat_le o.size (length looks') || nat_le s.number n) flows_are
-          ∙ ap (λ (b : Bool). nat_le o.size (length looks') || b) (sym (or-false (nat_le s.number (flows (read_backward s looks')))))
-          ∙ ap (λ (es : List Event). enough (nat_le o.size (length looks')) (flows (read_backward s looks')) (length es)) (sym last),
-      record {
-        backwards = is.backwards;
-        made = look_made r looks taken look is refl;
-        none = ap (λ (b : List ℕ). taken ++ b) leaves.waiting ∙ is.none;
-        held = held ∙ ap (λ (es : List Event). frames o.name (es ++ reverse (read_backward s looks'))) (sym last);
-        going = leaves.ended ∙ is.going;
-        counts = leaves.counts ∙ is.counts;
-        on = λ _. record { passed = passed; flows = flows_are; held = held };
-      },
-    )
+  step_by : (choice : Bool) → backward_has_ended o new ≡ choice → IsBackwardStep o looks new (cond choice (released b) (held_on b))
+  step_by true e = released_step e
+  step_by false e = held_step e
 
-pub read_stands : (r : ReplyState) (looks : List LookMade) (taken : List ℕ) (moment : ℕ) (bytes : List ℕ) → GoesOnBackward r looks taken
-    → ReplyStandsFor (backward_read r (event_of_record bytes)) (plus looks (got (next_place r) moment bytes)) taken
-read_stands r looks taken moment bytes is =
-    let o = r.opening in
-    let new : ReplyState = kept_backward r (event_of_record bytes) in
-    let looks' : List LookMade = plus looks (got (next_place r) moment bytes) in
-    let leaves = keeps r (event_of_record bytes) in
-    let both = read_held r new looks taken moment bytes is leaves in
-    let all : ReplyStandsFor (cond (is_enough (record new { opening = o })) (release (record new { opening = o })) (record new { opening = o })) looks' taken =
-    held_by (record new { opening = o }) looks' taken (is_enough (record new { opening = o })) (sym both.0) both.1 in
-    subst (λ (x : Opening). ReplyStandsFor (cond (is_enough (record new { opening = x })) (release (record new { opening = x })) (record new { opening = x })) looks' taken)
-    (sym leaves.opening) all
+-- ---- one more look
 
--- ---- the rest is gone
+module _ (o : Opening) (b : Backward) (looks : List LookMade) (look : LookMade) (is : GoesBackward o b looks) where
+  abbrev r : GetFlowsRequest
+  r = o.request
 
-pub gone_stands : (r : ReplyState) (looks : List LookMade) (taken : List ℕ) (moment next : ℕ) → GoesOnBackward r looks taken
-    → ReplyStandsFor (backward_gone r moment) (plus looks (gone (next_place r) moment next)) taken
-gone_stands r looks taken moment next is =
-    let o = r.opening in
-    let s = o.selection in
-    let look : LookMade = gone (next_place r) moment next in
-    let looks' : List LookMade = plus looks look in
-    let lost : Event = lost_event (o.size - r.passed) moment in
-    let count : next_place r - o.low + 1 ≡ o.size - r.passed = omega (arith, next_backward r is.backwards, is.on.passed, is.fewer) in
-    let last : gone_last o.low looks' ≡ lost ∷ [] =
-    ap (λ (l : Option LookMade). gone_after o.low l) (last_more None looks look) ∙ ap (λ (n : ℕ). lost_event n moment ∷ []) count in
-    let more = gone_more s looks (next_place r) moment next in
-    let ended : backward_has_ended s o.low o.size looks' ≡ true =
-    ap (λ (es : List Event). nat_le o.size (length looks') || (nat_le s.number (flows (read_backward s looks')) || nat_lt 0 (length es))) last
-    ∙ ap (λ (b : Bool). nat_le o.size (length looks') || b) (or_true (nat_le s.number (flows (read_backward s looks'))))
-    ∙ or_true (nat_le o.size (length looks')) in
-    let held : event_frame o.name lost ++ r.held ≡ frames o.name (gone_last o.low looks' ++ reverse (read_backward s looks')) =
-    ap (λ (b : List ℕ). event_frame o.name lost ++ b) (is.on.held ∙ ap (λ (es : List Event). frames o.name (reverse es)) (sym more))
-    ∙ ap (λ (es : List Event). frames o.name (es ++ reverse (read_backward s looks'))) (sym last) in
-    held_by (record (held_with r lost) { passed = o.size }) looks' taken true ended (record {
-      backwards = is.backwards;
-      made = look_made r looks taken look is refl;
-      none = is.none;
-      held = held;
-      going = is.going;
-      counts = is.counts;
-      on = λ h. absurd cc;
-    })
+  abbrev looks' : List LookMade
+  looks' = plus looks look
+
+  -- a record is read
+  read_more : (new : Backward) (bytes : List ℕ) → look.found ≡ Got bytes → KeepLeaves o b new (events_of o (event_of_record bytes))
+      → (backward_has_ended o looks' ≡ is_done o new.passed new.flows) × Holds o new looks looks'
+  read_more new bytes found leaves =
+      let G = events_of o (event_of_record bytes) in
+      let longer : length looks' ≡ length looks + 1 = length-append looks (look ∷ []) in
+      let passed : new.passed ≡ length looks' = omega (arith, leaves.passed, is.on.passed, longer) in
+      let more = newest_got r looks look bytes found in
+      let flows_are : new.flows ≡ flows (read_newest r looks') = omega (arith, leaves.flows, is.on.flows, ap flows more, flows_more (read_newest r looks) G) in
+      let last : gone_last o.low looks' ≡ [] =
+      ap (gone_after o.low) (last_more None looks look) ∙ ap (gone_from o.low look.position look.moment) found in
+      let within : length looks' ≤ o.size = omega (arith, longer, is.fewer) in
+      let turned : reverse (read_newest r looks') ≡ G ++ reverse (read_newest r looks) =
+      ap reverse more ∙ reverse-append (read_newest r looks) G ∙ ap (λ (es : List Event). es ++ reverse (read_newest r looks)) (one_turned r (event_of_record bytes)) in
+      let held : new.held ≡ bytes_of o (reverse (read_newest r looks')) =
+      leaves.held ∙ ap (λ (bytes : List ℕ). bytes_of o G ++ bytes) is.on.held
+      ∙ sym (bytes_more o G (reverse (read_newest r looks))) ∙ ap (bytes_of o) (sym turned) in
+      let enough : Bool = are_enough r (flows (read_newest r looks')) in (
+        ap (λ (es : List Event). nat_le o.size (length looks') || (enough || nat_lt 0 (length es))) last
+            ∙ ap (λ (e : Bool). nat_le o.size (length looks') || e) (or-false enough)
+            ∙ ap (λ (n : ℕ). nat_le o.size (length looks') || are_enough r n) (sym flows_are)
+            ∙ ap (λ (e : Bool). e || are_enough r new.flows) (least_is (length looks') o.size within)
+            ∙ ap (λ (n : ℕ). (n == o.size) || are_enough r new.flows) (sym passed),
+        record {
+          way = is.on.way;
+          none = is.none;
+          held = held ∙ ap (λ (es : List Event). bytes_of o (es ++ reverse (read_newest r looks'))) (sym last);
+          on = λ _. record { way = is.on.way; passed = passed; flows = flows_are; held = held };
+        },
+      )
+
+  pub read_step : (bytes : List ℕ) → look.found ≡ Got bytes → IsBackwardStep o looks looks' (backward_read o b (event_of_record bytes))
+  read_step bytes found =
+      let new : Backward = kept o b (event_of_record bytes) in
+      let both = read_more new bytes found (keeps o b (event_of_record bytes)) in
+      step_by o new looks looks' both.1 (is_done o new.passed new.flows) both.0
+
+  -- the rest is gone
+  pub gone_step : (next : ℕ) → look.position ≡ backward_place o b → look.found ≡ Gone next → IsBackwardStep o looks looks' (backward_gone o b look.moment)
+  gone_step next at found =
+      let lost : Event = lost_event (o.size - b.passed) look.moment in
+      let count : look.position - o.low + 1 ≡ o.size - b.passed = omega (arith, at, is.on.passed, is.fewer) in
+      let last : gone_last o.low looks' ≡ lost ∷ [] =
+      ap (gone_after o.low) (last_more None looks look) ∙ ap (gone_from o.low look.position look.moment) found
+      ∙ ap (λ (n : ℕ). lost_event n look.moment ∷ []) count in
+      let enough : Bool = are_enough r (flows (read_newest r looks')) in
+      let ended : backward_has_ended o looks' ≡ true =
+      ap (λ (es : List Event). nat_le o.size (length looks') || (enough || nat_lt 0 (length es))) last
+      ∙ ap (λ (e : Bool). nat_le o.size (length looks') || e) (or_true enough)
+      ∙ or_true (nat_le o.size (length looks')) in
+      let held : bytes_of o (lost ∷ []) ++ b.held ≡ bytes_of o (gone_last o.low looks' ++ reverse (read_newest r looks')) =
+      ap (λ (bytes : List ℕ). bytes_of o (lost ∷ []) ++ bytes) (is.on.held ∙ ap (λ (es : List Event). bytes_of o (reverse es)) (sym (newest_gone r looks look next found)))
+      ∙ sym (bytes_more o (lost ∷ []) (reverse (read_newest r looks')))
+      ∙ ap (λ (es : List Event). bytes_of o (es ++ reverse (read_newest r looks'))) (sym last) in
+      released_step o (record { passed = o.size; flows = b.flows; held = bytes_of o (lost ∷ []) ++ b.held }) looks looks'
+      (record { way = is.on.way; none = is.none; held = held; on = λ h. absurd cc }) ended

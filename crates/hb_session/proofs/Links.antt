@@ -1,14 +1,19 @@
 -- A link in memory that takes all that it is given, but for want of memory.
-use Rattle.std.proofs.Common.{◌≡◌, ◌⊎◌, inl, inr, ◌∙◌, ℕ, false, List, [], length, min, sym, ap, subst}
+use Rattle.std.proofs.Common.{◌≡◌, ◌⊎◌, inl, inr, ◌∙◌, ℕ, false, Some, List, [], ◌∷◌, length, min, sym, ap, subst}
 use Rattle.std.specs.List.{fold}
 use Rattle.hb_edge.specs.declared.link.Moved.{Moved}
 use Rattle.hb_edge.specs.declared.link.Moved.TheVariants.{Took, NotYet, Failed}
+use Rattle.hb_edge.specs.Link.{Held}
 use Rattle.hb_edge.specs.Plan.{one_more, is_planned}
 use Rattle.hb_edge.specs.MemLink.{LinkState, faults_after, waits_after, write_answer, write_after}
 use Rattle.hb_session.specs.declared.turn.Turn.{Turn}
 use Rattle.hb_session.specs.declared.turn.Turn.TheVariants as turns
 use Rattle.hb_session.proofs.Bools.{when_false}
-use Rattle.hb_session.proofs.Turned.{writes_keep}
+
+-- what each step keeps is so after all of them
+keeps : {A : Type 0} (step : A → List ℕ → A) (P : A → Type 0) → ((x : A) (piece : List ℕ) → P x → P (step x piece)) → (pieces : List (List ℕ)) (a : A) → P a → P (fold step a pieces)
+keeps step P each [] a is = is
+keeps step P each (piece ∷ pieces) a is = keeps step P each pieces (step a piece) (each a piece is)
 
 -- no call is to fail, it is not held, and no write failed or had to wait
 pub record IsFree (link : LinkState) : Type 0 where
@@ -35,24 +40,20 @@ write_keeps link piece free =
 
 -- and after all of them
 pub free_after : (link new : LinkState) (pieces : List (List ℕ)) → IsFree link → new ≡ fold write_after link pieces → IsFree new
-free_after link new pieces free is = subst IsFree (sym is) (writes_keep write_after IsFree write_keeps pieces link free)
+free_after link new pieces free is = subst IsFree (sym is) (keeps write_after IsFree write_keeps pieces link free)
 
 -- ---- an answer that ends a session over such a link
 
-abbrev IsEnd : Turn → Type 0
-IsEnd turns.Done = Unit {0}
-IsEnd turns.NoMemory = Unit {0}
-IsEnd turns.More = ⊥
-IsEnd turns.Idle = ⊥
-IsEnd turns.LinkFault = ⊥
-IsEnd turns.Spent = ⊥
-
-end_is : (a : Turn) → (a ≡ turns.Done) ⊎ (a ≡ turns.NoMemory) → IsEnd a
-end_is a (inl is) = subst IsEnd (sym is) tt
-end_is a (inr is) = subst IsEnd (sym is) tt
-
 pub ends_else : (a : Turn) → (a ≡ turns.Done) ⊎ (a ≡ turns.NoMemory) → (a ≡ turns.LinkFault) ⊎ ((a ≡ turns.Spent) ⊎ ((a ≡ turns.Idle) ⊎ (a ≡ turns.More))) → ⊥
-ends_else a end (inl is) = subst IsEnd is (end_is a end)
-ends_else a end (inr (inl is)) = subst IsEnd is (end_is a end)
-ends_else a end (inr (inr (inl is))) = subst IsEnd is (end_is a end)
-ends_else a end (inr (inr (inr is))) = subst IsEnd is (end_is a end)
+ends_else a (inl is) (inl other) = absurd (let both : turns.Done ≡ turns.LinkFault = sym is ∙ other in cc)
+ends_else a (inl is) (inr (inl other)) = absurd (let both : turns.Done ≡ turns.Spent = sym is ∙ other in cc)
+ends_else a (inl is) (inr (inr (inl other))) = absurd (let both : turns.Done ≡ turns.Idle = sym is ∙ other in cc)
+ends_else a (inl is) (inr (inr (inr other))) = absurd (let both : turns.Done ≡ turns.More = sym is ∙ other in cc)
+ends_else a (inr is) (inl other) = absurd (let both : turns.NoMemory ≡ turns.LinkFault = sym is ∙ other in cc)
+ends_else a (inr is) (inr (inl other)) = absurd (let both : turns.NoMemory ≡ turns.Spent = sym is ∙ other in cc)
+ends_else a (inr is) (inr (inr (inl other))) = absurd (let both : turns.NoMemory ≡ turns.Idle = sym is ∙ other in cc)
+ends_else a (inr is) (inr (inr (inr other))) = absurd (let both : turns.NoMemory ≡ turns.More = sym is ∙ other in cc)
+
+-- what a link has taken, where it tells
+pub same_taken : (h k : Held) → Some h ≡ Some k → h.taken ≡ k.taken
+same_taken h k is = let same : h ≡ k = cc in ap (λ (x : Held). x.taken) same

@@ -1,113 +1,59 @@
--- Turns one after another.
-use Rattle.std.proofs.Common.{◌≡◌, ◌≢◌, ◌↔◌, ◌⊎◌, inl, inr, take, min, ℕ, ◌+◌, ◌-◌, ◌^◌, ◌<◌, ◌≤◌, List, [], ◌∷◌, ◌++◌, Option, Some, None, refl, sym, ap, ◌∙◌, append_assoc, arith, length, drop, subst}
-use Rattle.std.specs.Option.{ForSome}
-use Rattle.std.proofs.lemmas.List.{append-nil, length-append, length-take}
-use Rattle.std.proofs.Math.Seq.{drop-append_seam}
-use Rattle.std.specs.List.{All, fold}
-use Rattle.std.proofs.lemmas.List.Sums.{fold-append}
-use Rattle.std.proofs.lemmas.List.Elements.{All-append, All-nil}
-use Rattle.hb_look.specs.Looks.{LookMade}
-use Rattle.hb_look.specs.Reader.{Seen, Reader, Loaded, IsLaterSeen, IsLater}
+-- Turns one after another, until one does not answer More.
+use Rattle.std.proofs.Common.{◌≡◌, ◌≢◌, ◌↔◌, ◌⊎◌, inl, inr, ℕ, ◌+◌, ◌^◌, ◌<◌, ◌≤◌, ◌&&◌, true, false, Bool, cond, List, [], ◌∷◌, ◌++◌, Option, Some, None, refl, sym, ap, ◌∙◌, append_assoc, arith, length, max, subst}
+use Rattle.std.specs.Prelude.{nat_le}
+use Rattle.std.specs.List.{fold, All}
 use Rattle.hb_edge.specs.Causes.{Rose}
-use Rattle.hb_edge.specs.Link.{Held}
+use Rattle.std.proofs.lemmas.Bool.{cases_lt}
+use Rattle.std.proofs.lemmas.List.{length-append}
+use Rattle.std.proofs.lemmas.List.Sums.{fold-append}
+use Rattle.hb_edge.specs.declared.link.Moved.{Moved}
+use Rattle.hb_edge.specs.declared.link.Moved.TheVariants as moves
+use Rattle.hb_edge.proofs.Writes.{rose_on}
+use Rattle.hb_look.specs.Limits.{most_records, largest_capacity}
+use Rattle.hb_look.specs.Looks.{LookMade, added}
+use Rattle.hb_look.specs.Looks as looks
+use Rattle.hb_look.proofs.Added.{added_both, none_added, all_none}
 use Rattle.hb_session.specs.declared.turn.Turn.{Turn}
 use Rattle.hb_session.specs.declared.turn.Turn.TheVariants as turns
-use Rattle.hb_session.specs.Replies.{Opening, owed}
-use Rattle.hb_session.specs.Sessions.{Session, SessionStandsFor, added, left, HaveTurned, HasDone, IsWhole, IsWritten, ended_by}
-use Rattle.hb_session.proofs.Looked.{none_added}
+use Rattle.hb_session.specs.Openings.{Opening}
+use Rattle.hb_session.specs.Sessions.{Session, HaveTurned, HasDone, IsWhole, IsAnswerTo, AreTaken, HasTaken, HasAnswered, EndsBy, ended_by}
+use Rattle.hb_session.proofs.Sessions.{no_answer, none_waits, IsGoingOn, turned_both}
 
--- what a link holds after it took these bytes
-abbrev pub HasTaken : Option Held → Option Held → List ℕ → Type 0
-HasTaken before after gained = ForSome before (λ h. after ≡ Some (record h { taken = h.taken ++ gained }))
+-- ---- an answer after which a session is turned again
 
-pub taken_both : (a b c : Option Held) (g k : List ℕ) → HasTaken a b g → HasTaken b c k → HasTaken a c (g ++ k)
-taken_both a b c g k first second h e =
-    second (record h { taken = h.taken ++ g }) (first h e) ∙ ap (λ (t : List ℕ). Some (record h { taken = t })) (append_assoc h.taken g k)
+-- it was open before
+pub open_by : (s new : Session) (answer : Turn) (before : Option Turn) → s.answer ≡ before → new.answer ≡ ended_by answer → answer ≡ turns.More
+    → ((told : Turn) → s.answer ≡ Some told → new ≡ s) → s.answer ≡ None
+open_by s new answer None is ended more repeats = is
+open_by s new answer (Some told) is ended more repeats =
+    absurd (no_answer (sym (ap ended_by more) ∙ sym ended ∙ ap (λ (x : Session). x.answer) (repeats told is) ∙ is))
 
-taken_none : (a : Option Held) → HasTaken a a []
-taken_none a h e = e ∙ ap (λ (t : List ℕ). Some (record h { taken = t })) (sym (append-nil h.taken))
+-- ---- some turns after others
 
--- what was added in two stretches
-pub added_both : (a b c : List LookMade) → b ≡ a ++ added a b → c ≡ b ++ added b c → added a c ≡ added a b ++ added b c
-added_both a b c first second =
-    ap (drop (length a)) (second ∙ ap (λ (ls : List LookMade). ls ++ added b c) first ∙ append_assoc a (added a b) (added b c))
-    ∙ drop-append_seam a (added a b ++ added b c)
+on_by : (s new : Session) (l m : List LookMade) (before : Option Turn) → s.answer ≡ before
+    → ((told : Turn) → s.answer ≡ Some told → (new ≡ s) × (m ≡ l)) → IsGoingOn s new (added l m)
+on_by s new l m None is repeats = inl (λ e. no_answer (sym is ∙ e))
+on_by s new l m (Some told) is repeats = let same = repeats told is in inr (none_added l m same.1, same.0)
 
--- a session that is turned, after a number of turns
-pub record IsTurning (old new : Session) (l0 l : List LookMade) (h0 h : Option Held) (w0 w turns : ℕ) (gained : List ℕ) : Type 0 where
-  pub turned : HaveTurned old new l0 l gained
-  pub told : HasTaken h0 h gained
-  pub room : left new + length (added l0 l) ≤ left old
-  pub waits : w0 ≤ w
-  pub counted : (Rose w0 w → ⊥) → turns ≤ length (added l0 l) + length gained
+pub turned_more : (old s new : Session) (l0 l m : List LookMade) (g k : List ℕ) → l ≡ l0 ++ added l0 l → m ≡ l ++ added l m
+    → ((told : Turn) → s.answer ≡ Some told → (new ≡ s) × (m ≡ l))
+    → HaveTurned old s (added l0 l) g → HaveTurned s new (added l m) k → HaveTurned old new (added l0 m) (g ++ k)
+turned_more old s new l0 l m g k first second repeats one two =
+    subst (λ (ls : List LookMade). HaveTurned old new ls (g ++ k)) (sym (added_both l0 l m first second))
+    (turned_both old s new (added l0 l) (added l m) g k one two (on_by s new l m s.answer refl repeats))
 
-pub not_turned : (s : Session) (l : List LookMade) (h : Option Held) (w : ℕ) → IsTurning s s l l h h w w 0 []
-not_turned s l h w =
-    let none : added l l ≡ [] = none_added l l refl in record {
-      turned = record {
-        opening = refl;
-        listed = sym (append-nil l) ∙ ap (λ (ls : List LookMade). l ++ ls) (sym none);
-        spent = omega (arith, ap length none);
-        stands = λ looks taken is. subst (λ (ls : List LookMade). SessionStandsFor s ls (taken ++ [])) (sym (ap (λ (ls : List LookMade). looks ++ ls) none ∙ append-nil looks))
-            (subst (SessionStandsFor s looks) (sym (append-nil taken)) is);
-      };
-      told = taken_none h;
-      room = omega (arith, ap length none);
-      waits = omega arith;
-      counted = λ _. omega arith;
-    }
+pub done_more : (old s : Session) (answer : Turn) (l0 l m : List LookMade) (g k : List ℕ) → l ≡ l0 ++ added l0 l → m ≡ l ++ added l m → (old.answer ≡ None → s.answer ≡ None)
+    → HaveTurned old s (added l0 l) g → HasDone s answer (added l m) k → HasDone old answer (added l0 m) (g ++ k)
+done_more old s answer l0 l m g k first second goes one done before taken is going not =
+    let looks_are : (before ++ added l0 l) ++ added l m ≡ before ++ added l0 m =
+    append_assoc before (added l0 l) (added l m) ∙ ap (λ (ls : List LookMade). before ++ ls) (sym (added_both l0 l m first second)) in
+    let whole : (answer ≡ turns.Done) ↔ IsWhole s.source.opening ((before ++ added l0 l) ++ added l m) ((taken ++ g) ++ k) =
+    done (before ++ added l0 l) (taken ++ g) (one.stands before taken is) (goes going) not in
+    subst (λ (o : Opening). (answer ≡ turns.Done) ↔ IsWhole o (before ++ added l0 m) (taken ++ (g ++ k))) one.opening
+    (subst (λ (ls : List LookMade). (answer ≡ turns.Done) ↔ IsWhole s.source.opening ls (taken ++ (g ++ k))) looks_are
+    (subst (λ (t : List ℕ). (answer ≡ turns.Done) ↔ IsWhole s.source.opening ((before ++ added l0 l) ++ added l m) t) (append_assoc taken g k) whole))
 
--- one turn more
-pub turned_more : (old s new : Session) (l0 l m : List LookMade) (g k : List ℕ) → HaveTurned old s l0 l g → HaveTurned s new l m k → left s + length (added l0 l) ≤ left old
-    → HaveTurned old new l0 m (g ++ k)
-turned_more old s new l0 l m g k first second room =
-    let both : added l0 m ≡ added l0 l ++ added l m = added_both l0 l m first.listed second.listed in
-    let longer : length (added l0 m) ≡ length (added l0 l) + length (added l m) = ap length both ∙ length-append (added l0 l) (added l m) in record {
-      opening = second.opening ∙ first.opening;
-      listed = second.listed ∙ ap (λ (ls : List LookMade). ls ++ added l m) first.listed ∙ append_assoc l0 (added l0 l) (added l m)
-          ∙ ap (λ (ls : List LookMade). l0 ++ ls) (sym both);
-      spent = omega (arith, longer, room, second.spent);
-      stands = λ looks taken is.
-          subst (λ (ls : List LookMade). SessionStandsFor new ls (taken ++ (g ++ k))) (append_assoc looks (added l0 l) (added l m) ∙ ap (λ (ls : List LookMade). looks ++ ls) (sym both))
-          (subst (SessionStandsFor new ((looks ++ added l0 l) ++ added l m)) (append_assoc taken g k)
-          (second.stands (looks ++ added l0 l) (taken ++ g) (first.stands looks taken is)));
-    }
-
-pub rose_on : (a b c d : ℕ) → a ≤ b → c ≤ d → Rose b c → Rose a d
-rose_on a b c d before after rose = omega (arith, before, after, rose)
-
-pub turning_more : (old s new : Session) (l0 l m : List LookMade) (h0 h i : Option Held) (w0 w v turns more : ℕ) (g k : List ℕ) → IsTurning old s l0 l h0 h w0 w turns g
-    → HaveTurned s new l m k → HasTaken h i k → left new + length (added l m) ≤ left s → w ≤ v → more ≤ turns + 1
-    → ((Rose w v → ⊥) → 1 ≤ length k + length (added l m))
-    → IsTurning old new l0 m h0 i w0 v more (g ++ k)
-turning_more old s new l0 l m h0 h i w0 w v turns more g k is turned told room waits counts moved =
-    let longer : length (added l0 m) ≡ length (added l0 l) + length (added l m) =
-    ap length (added_both l0 l m is.turned.listed turned.listed) ∙ length-append (added l0 l) (added l m) in
-    let bytes = length-append g k in record {
-      turned = turned_more old s new l0 l m g k is.turned turned is.room;
-      told = taken_both h0 h i g k is.told told;
-      room = omega (arith, longer, room, is.room);
-      waits = omega (arith, waits, is.waits);
-      counted = λ calm.
-          let before = is.counted (λ rose. calm (rose_on w0 w0 w v (omega arith) waits rose)) in
-          let now = moved (λ rose. calm (rose_on w0 w v v is.waits (omega arith) rose)) in
-          omega (arith, longer, bytes, before, now, counts);
-    }
-
--- ---- the last turn
-
-pub done_more : (old s new : Session) (answer : Turn) (l0 l m : List LookMade) (g k : List ℕ) → HaveTurned old s l0 l g → HaveTurned s new l m k → (old.answer ≡ None → s.answer ≡ None)
-    → ((looks : List LookMade) (taken : List ℕ) → SessionStandsFor s looks taken → s.answer ≡ None → answer ≢ turns.NoMemory
-    → (answer ≡ turns.Done) ↔ IsWhole s.reply.opening (looks ++ added l m) (taken ++ k))
-    → HasDone old answer (added l0 m) (g ++ k)
-done_more old s new answer l0 l m g k first second goes done looks taken is going not =
-    let looks_are : (looks ++ added l0 l) ++ added l m ≡ looks ++ added l0 m =
-    append_assoc looks (added l0 l) (added l m) ∙ ap (λ (ls : List LookMade). looks ++ ls) (sym (added_both l0 l m first.listed second.listed)) in
-    let whole : (answer ≡ turns.Done) ↔ IsWhole s.reply.opening ((looks ++ added l0 l) ++ added l m) ((taken ++ g) ++ k) =
-    done (looks ++ added l0 l) (taken ++ g) (first.stands looks taken is) (goes going) not in
-    subst (λ (o : Opening). (answer ≡ turns.Done) ↔ IsWhole o (looks ++ added l0 m) (taken ++ (g ++ k))) first.opening
-    (subst (λ (ls : List LookMade). (answer ≡ turns.Done) ↔ IsWhole s.reply.opening ls (taken ++ (g ++ k))) looks_are
-    (subst (λ (t : List ℕ). (answer ≡ turns.Done) ↔ IsWhole s.reply.opening ((looks ++ added l0 l) ++ added l m) t) (append_assoc taken g k) whole))
+-- ---- how they end
 
 -- an answer that is none of these four
 pub which : (answer : Turn) → answer ≢ turns.More → answer ≢ turns.Idle → answer ≢ turns.LinkFault → answer ≢ turns.Spent
@@ -119,101 +65,87 @@ which turns.LinkFault more idle fault spent = absurd (fault refl)
 which turns.Spent more idle fault spent = absurd (spent refl)
 which turns.NoMemory more idle fault spent = inr refl
 
--- no more turns were made than there are positions in the window and bytes of the reply, and one
-pub few_turns : (old s new : Session) (l0 l m : List LookMade) (h0 h : Option Held) (w0 w turns more : ℕ) (g k : List ℕ) → IsTurning old s l0 l h0 h w0 w turns g
-    → HaveTurned old new l0 m (g ++ k) → (Rose w0 w → ⊥) → more ≤ turns + 1 → (looks : List LookMade) (taken : List ℕ) → SessionStandsFor old looks taken
-    → more ≤ old.reply.opening.size + 1 + length (owed old.reply.opening (looks ++ added l0 m))
-few_turns old s new l0 l m h0 h w0 w turns more g k is all calm one looks taken stands =
-    let o : Opening = old.reply.opening in
-    let new_is = all.stands looks taken stands in
-    let owed_is : List ℕ = owed new.reply.opening (looks ++ added l0 m) in
-    let same : length owed_is ≡ length (owed o (looks ++ added l0 m)) = ap (λ (x : Opening). length (owed x (looks ++ added l0 m))) all.opening in
-    let first : length (take (length (taken ++ (g ++ k))) owed_is) ≡ length (taken ++ (g ++ k)) = ap length new_is.sent.1 in
-    let size = length-take (length (taken ++ (g ++ k))) owed_is in
-    let bytes : length (taken ++ (g ++ k)) ≡ length taken + length (g ++ k) = length-append taken (g ++ k) in
-    let both = length-append g k in
-    let counted = is.counted calm in
-    omega (arith, same, first, size, bytes, both, counted, one, is.room)
+-- so few looks were made that another one may be
+pub not_spent : (old s : Session) (l0 l : List LookMade) (g : List ℕ) → l ≡ l0 ++ added l0 l → HaveTurned old s (added l0 l) g → s.source.opening.size ≤ largest_capacity
+    → length l0 ≤ 2 ^ 61 → length l ≢ most_records
+not_spent old s l0 l g listed turned window few spent =
+    let longer : length l ≡ length l0 + length (added l0 l) = ap length listed ∙ length-append l0 (added l0 l) in
+    omega (arith, longer, few, spent, turned.most, ap (λ (o : Opening). o.size) turned.opening, window)
 
--- ---- an answer after which a session is turned again
+-- ---- what a link answered
 
-abbrev pub GoesOn : Turn → Type 0
-GoesOn answer = (answer ≡ turns.More) ⊎ (answer ≡ turns.Idle)
+module _ {A : Type 0} (answer : A → List ℕ → Moved) (after : A → List ℕ → A) where
+  -- one write more of which bytes were taken
+  taken_more : (a : A) (pieces : List (List ℕ)) (piece : List ℕ) (n : ℕ) → AreTaken answer after a pieces
+      → answer (fold after a pieces) piece ≡ moves.Took n → AreTaken answer after a (pieces ++ piece ∷ [])
+  taken_more a [] piece n taken is = ((n, is), tt)
+  taken_more a (first ∷ pieces) piece n taken is = (taken.0, taken_more (after a first) pieces piece n taken.1 is)
 
-pub goes : {A : Type 0} (answer : Turn) → (answer ≡ turns.More) ⊎ ((answer ≡ turns.Idle) × A) → GoesOn answer
-goes answer (inl e) = inl e
-goes answer (inr both) = inr both.0
+  -- after an answer that is More, the link is as writes leave it
+  pub went_on : {R : Type 0} (a new : A) (turn : Turn) → turn ≡ turns.More → EndsBy answer after a new turn ⊎ ((turn ≡ turns.LinkFault) × R)
+      → HasTaken answer after a new
+  went_on a new turn more (inl ends) = subst (EndsBy answer after a new) more ends
+  went_on a new turn more (inr failed) = absurd (let both : turns.More ≡ turns.LinkFault = sym more ∙ failed.0 in cc)
 
-pub goes_remembering : (answer : Turn) → GoesOn answer → answer ≢ turns.NoMemory
-goes_remembering answer (inl e) memory = absurd (let both : turns.More ≡ turns.NoMemory = sym e ∙ memory in cc)
-goes_remembering answer (inr e) memory = absurd (let both : turns.Idle ≡ turns.NoMemory = sym e ∙ memory in cc)
+  module _ (s : Session) (a b new : A) (before : HasTaken answer after a b) where
+    took_on : (n : ℕ) → answer b s.waiting ≡ moves.Took n → new ≡ after b s.waiting → HasTaken answer after a new
+    took_on n is wrote = (
+      before.0 ++ s.waiting ∷ [],
+      wrote ∙ ap (λ x. after x s.waiting) before.1 ∙ sym (fold-append after a before.0 (s.waiting ∷ [])),
+      taken_more a before.0 s.waiting n before.2 (sym (ap (λ x. answer x s.waiting) before.1) ∙ is),
+    )
 
-pub goes_open : (answer : Turn) → GoesOn answer → ended_by answer ≡ None
-goes_open answer (inl e) = ap ended_by e
-goes_open answer (inr e) = ap ended_by e
+    ends_in : (turn : Turn) (b : Bool) → turn ≡ cond b turns.Done turns.More → HasTaken answer after a new → EndsBy answer after a new turn
+    ends_in turn true is taken = subst (EndsBy answer after a new) (sym is) taken
+    ends_in turn false is taken = subst (EndsBy answer after a new) (sym is) taken
 
--- it moved, where no write had to wait
-pub goes_moving : (answer : Turn) (w v n : ℕ) → GoesOn answer → (answer ≡ turns.More → 0 < n) → (answer ≡ turns.Idle → Rose w v) → (Rose w v → ⊥) → 1 ≤ n
-goes_moving answer w v n (inl e) more idle calm = let some = more e in omega (arith, some)
-goes_moving answer w v n (inr e) more idle calm = absurd (calm (idle e))
+    answered : (moved : Moved) → answer b s.waiting ≡ moved → new ≡ after b s.waiting → HasAnswered answer after a new moved
+    answered moved is wrote =
+        (before.0, s.waiting, before.2, wrote ∙ ap (λ x. after x s.waiting) before.1, sym (ap (λ x. answer x s.waiting) before.1) ∙ is)
 
--- no write failed
-pub goes_unfailed : {A R : Type 0} (answer : Turn) → GoesOn answer → A ⊎ ((answer ≡ turns.LinkFault) × R) → A
-goes_unfailed answer on (inl is) = is
-goes_unfailed answer (inl more) (inr failed) = absurd (let both : turns.More ≡ turns.LinkFault = sym more ∙ failed.0 in cc)
-goes_unfailed answer (inr idle) (inr failed) = absurd (let both : turns.Idle ≡ turns.LinkFault = sym idle ∙ failed.0 in cc)
+    -- the last write decides
+    ends_by : (turn : Turn) (moved : Moved) → answer b s.waiting ≡ moved → IsAnswerTo s moved turn → new ≡ after b s.waiting → EndsBy answer after a new turn
+    ends_by turn (moves.Took n) is told wrote = ends_in turn (s.source.ended && nat_le (length s.waiting) n) told (took_on n is wrote)
+    ends_by turn moves.NotYet is told wrote = subst (EndsBy answer after a new) (sym told) (answered moves.NotYet is wrote)
+    ends_by turn moves.End is told wrote = absurd told
+    ends_by turn moves.Failed is told wrote = subst (EndsBy answer after a new) (sym told) (answered moves.Failed is wrote)
 
--- ---- what the link is afterwards
+    -- or there was none
+    ends_still : (turn : Turn) → turn ≢ turns.Idle → turn ≢ turns.LinkFault → new ≡ b → EndsBy answer after a new turn
+    ends_still turns.Idle idle fault same = absurd (idle refl)
+    ends_still turns.LinkFault idle fault same = absurd (fault refl)
+    ends_still turns.More idle fault same = (before.0, same ∙ before.1, before.2)
+    ends_still turns.Done idle fault same = (before.0, same ∙ before.1, before.2)
+    ends_still turns.Spent idle fault same = (before.0, same ∙ before.1, before.2)
+    ends_still turns.NoMemory idle fault same = (before.0, same ∙ before.1, before.2)
 
--- writes of pieces, one after another
-abbrev pub AreWrites : {A : Type 0} → (A → List ℕ → A) → A → A → Type 0
-AreWrites step a b = (pieces : List (List ℕ)) × (b ≡ fold step a pieces)
+    -- what a link answered to the last write decides, where bytes waited
+    pub ends_with : (turn : Turn) (r0 r1 r2 : ℕ) → r0 ≤ r1
+        → (0 < length s.waiting → (IsAnswerTo s (answer b s.waiting) turn × (new ≡ after b s.waiting)) ⊎ ((turn ≡ turns.LinkFault) × Rose r1 r2))
+        → (s.waiting ≡ [] → new ≡ b) → (turn ≡ turns.Idle → 0 < length s.waiting) → (turn ≡ turns.LinkFault → 0 < length s.waiting)
+        → EndsBy answer after a new turn ⊎ ((turn ≡ turns.LinkFault) × Rose r0 r2)
+    ends_with turn r0 r1 r2 later exact still idle fault = elim (cases_lt 0 (length s.waiting)) [
+      | inl some ↦ elim (exact some) [
+        | inl told ↦ inl (ends_by turn (answer b s.waiting) refl told.0 told.1)
+        | inr failed ↦ inr (failed.0, rose_on r0 r1 r2 r2 later (omega arith) failed.1)
+      ]
+      | inr none ↦ inl (ends_still turn (λ e. let some = idle e in omega (arith, some, none)) (λ e. let some = fault e in omega (arith, some, none))
+          (still (none_waits s.waiting (omega (arith, none)))))
+    ]
 
--- and one more, or none
-pub writes_more : {A : Type 0} (step : A → List ℕ → A) (a b c : A) (piece : List ℕ) → AreWrites step a b → IsWritten step piece b c → AreWrites step a c
-writes_more step a b c piece are (inl same) = (are.0, same ∙ are.1)
-writes_more step a b c piece are (inr wrote) = (are.0 ++ piece ∷ [], wrote ∙ ap (λ x. step x piece) are.1 ∙ sym (fold-append step a are.0 (piece ∷ [])))
+-- ---- the looks of the last turn
 
--- what each write keeps is so after all of them
-pub writes_keep : {A : Type 0} (step : A → List ℕ → A) (P : A → Type 0) → ((x : A) (piece : List ℕ) → P x → P (step x piece)) → (pieces : List (List ℕ)) (a : A) → P a → P (fold step a pieces)
-writes_keep step P keeps [] a is = is
-writes_keep step P keeps (piece ∷ pieces) a is = writes_keep step P keeps pieces (step a piece) (keeps a piece is)
+-- as many looks, and more
+pub no_fewer : (l m : List LookMade) → m ≡ l ++ added l m → length l ≡ most_records → most_records ≤ length m
+no_fewer l m listed spent =
+    let longer : length m ≡ length l + length (added l m) = ap length listed ∙ length-append l (added l m) in omega (arith, longer, spent)
 
--- ---- what holds of each look
+-- each was made at the greatest moment that was told
+abbrev pub IsMadeAt : ℕ → LookMade → Type 0
+IsMadeAt moment look = (look.moment ≡ moment) × (look.position < looks.after look)
 
--- of all that were added, where it holds of those of each stretch
-pub all_added : (P : LookMade → Type 0) (a b c : List LookMade) → b ≡ a ++ added a b → c ≡ b ++ added b c → All P (added a b) → All P (added b c) → All P (added a c)
-all_added P a b c first second one two = subst (All P) (sym (added_both a b c first second)) (All-append P (added a b) (added b c) one two)
-
-later_seen : (a b c : Seen) → IsLaterSeen a b → IsLaterSeen b c → IsLaterSeen a c
-later_seen a b c first second = record {
-  count = omega (arith, first.count, second.count);
-  loads = omega (arith, first.loads, second.loads);
-  loaded = elim second.loaded [
-    | inl same ↦ subst (λ (x : Seen). (x ≡ a) ⊎ Loaded a x) (sym same) first.loaded
-    | inr rose ↦ inr (omega (arith, first.loads, rose))
-  ];
-}
-
-pub later_both : (a b c : Reader) → IsLater a b → IsLater b c → IsLater a c
-later_both a b c first second = record {
-  finished = later_seen a.finished b.finished c.finished first.finished second.finished;
-  begun = later_seen a.begun b.begun c.begun first.begun second.begun;
-}
-
-pub later_same : (a : Reader) → IsLater a a
-later_same a = record {
-  finished = record { count = omega arith; loads = omega arith; loaded = inl refl };
-  begun = record { count = omega arith; loads = omega arith; loaded = inl refl };
-}
-
--- and of none, where none was added
-pub all_none : (P : LookMade → Type 0) (a : List LookMade) → All P (added a a)
-all_none P a = subst (All P) (sym (none_added a a refl)) (All-nil P)
-
--- what was added in two stretches, counted
-pub counted_more : (a b c : List LookMade) (turns more : ℕ) → b ≡ a ++ added a b → c ≡ b ++ added b c → length (added b c) ≤ 1
-    → min (length (added a b)) (2 ^ 64 - 1) ≤ turns → more ≡ min (turns + 1) (2 ^ 64 - 1) → min (length (added a c)) (2 ^ 64 - 1) ≤ more
-counted_more a b c turns more first second one before after =
-    let longer : length (added a c) ≡ length (added a b) + length (added b c) = ap length (added_both a b c first second) ∙ length-append (added a b) (added b c) in
-    omega (arith, longer, one, before, after)
+pub made_by : (old s new : Session) (now : ℕ) (l m : List LookMade) (before : Option Turn) → s.answer ≡ before → All (λ look. look.moment ≡ new.moment) (added l m)
+    → All (λ look. look.position < looks.after look) (added l m) → ((told : Turn) → s.answer ≡ Some told → m ≡ l)
+    → (s.answer ≡ None → new.moment ≡ max s.moment now) → max s.moment now ≡ max old.moment now → All (IsMadeAt (max old.moment now)) (added l m)
+made_by old s new now l m None is at leads repeats moment same = λ k d below. (at k d below ∙ moment is ∙ same, leads k d below)
+made_by old s new now l m (Some told) is at leads repeats moment same = all_none (IsMadeAt (max old.moment now)) l m (repeats told is)

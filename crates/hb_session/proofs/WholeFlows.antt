@@ -1,16 +1,17 @@
 -- How many flows are among the first and the last events of a list.
-use Rattle.std.proofs.Common.{◌≡◌, ◌⊎◌, inl, inr, ℕ, zero, suc, ◌+◌, ◌-◌, ◌<◌, ◌≤◌, min, Bool, true, false, cond, ◌&&◌, List, [], ◌∷◌, ◌++◌, length, length-append, take, drop, refl, sym, ap, ◌∙◌, arith}
+use Rattle.std.proofs.Common.{◌≡◌, ◌⊎◌, inl, inr, ℕ, zero, suc, ◌+◌, ◌-◌, ◌<◌, ◌≤◌, min, Bool, true, false, cond, List, [], ◌∷◌, ◌++◌, length, length-append, take, drop, refl, sym, ap, ◌∙◌, arith}
 use Rattle.std.specs.Prelude.{nat_lt, nat_le, if◌then◌else◌}
 use Rattle.std.specs.List.{AllByRecursion, filter}
 use Rattle.std.proofs.Math.Seq.{take-append_seam, drop-append_seam}
 use Rattle.std.proofs.lemmas.List.Elements.{filter-append}
+use Rattle.hb_api.specs.declared.request.GetFlowsRequest.{GetFlowsRequest}
+use Rattle.hb_session.specs.Openings.{are_enough}
 use Rattle.hb_session.specs.Window.{window}
 use Rattle.std.proofs.lemmas.Bool.{and_from, and_right, cases_lt, le-leb, lt-leb, lt-ltb}
 use Rattle.std.proofs.lemmas.List.{take_all, take-append-drop}
 use Rattle.hb_flow.specs.declared.event.Event.{Event}
-use Rattle.hb_session.specs.Events.{is_flow}
-use Rattle.hb_session.specs.Forward.{flows}
-use Rattle.hb_session.proofs.Forwards.{flows_more}
+use Rattle.hb_session.specs.Events.{is_flow, flows}
+use Rattle.hb_session.proofs.Replies.{flows_more}
 
 -- one event is one flow at most
 one_most : (b : Bool) → cond b 1 0 ≤ 1
@@ -120,21 +121,20 @@ module _ (p : Event → Bool) where
 
 -- ---- what it means to be enough
 
-pub few_of : (n : ℕ) (first : Bool) (es : List Event) → first ≡ true → 0 < n → (first && nat_lt 0 n && nat_le n (flows es)) ≡ false → flows es < n
-few_of n first es is some not =
-    elim (cases_lt (flows es) n) [
+pub few_of : (r : GetFlowsRequest) (count : ℕ) → 0 < r.number → are_enough r count ≡ false → count < r.number
+few_of r count some not =
+    elim (cases_lt count r.number) [
       | inl few ↦ few
       | inr more ↦ absurd (
-          let all : (first && nat_lt 0 n && nat_le n (flows es)) ≡ true =
-          and_from (first && nat_lt 0 n) (nat_le n (flows es)) (and_from first (nat_lt 0 n) is (lt-ltb 0 n some)) (le-leb n (flows es) more) in cc
+          let all : are_enough r count ≡ true = and_from (nat_lt 0 r.number) (nat_le r.number count) (lt-ltb 0 r.number some) (le-leb r.number count more) in cc
           )
     ]
 
-pub enough_of : (n : ℕ) (first : Bool) (es : List Event) → (first && nat_lt 0 n && nat_le n (flows es)) ≡ true → n ≤ flows es
-enough_of n first es is =
-    elim (cases_lt (flows es) n) [
+pub enough_of : (r : GetFlowsRequest) (count : ℕ) → are_enough r count ≡ true → r.number ≤ count
+enough_of r count is =
+    elim (cases_lt count r.number) [
       | inl few ↦ absurd (
-          let none : (first && nat_lt 0 n && nat_le n (flows es)) ≡ false = and_right (first && nat_lt 0 n) (nat_le n (flows es)) (lt-leb n (flows es) few) in cc
+          let none : are_enough r count ≡ false = and_right (nat_lt 0 r.number) (nat_le r.number count) (lt-leb r.number count few) in cc
           )
       | inr more ↦ more
     ]

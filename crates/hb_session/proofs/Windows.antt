@@ -1,21 +1,112 @@
--- What one more look adds to a window that is read forwards.
-use Rattle.std.proofs.Common.{◌≡◌, ℕ, suc, ◌+◌, ◌-◌, ◌<◌, min, Bool, true, false, cond, List, [], ◌∷◌, ◌++◌, Option, Some, None, sym, ap, ◌∙◌, append_assoc, arith, replicate, take, length, inl, inr}
-use Rattle.std.specs.List.{flat_map}
-use Rattle.std.proofs.lemmas.Bool.{cases_lt, eqb-false}
+-- The positions of a window that is read forwards and their parts, with one more look.
+use Rattle.std.proofs.Common.{◌≡◌, ℕ, zero, suc, ◌+◌, List, [], ◌∷◌, ◌++◌, Option, Some, None, refl, sym, ap, ◌∙◌, append_assoc, arith, replicate, drop, length, ◌-◌, ◌<◌, min, Bool, true, false, cond, take, inl, inr}
 use Rattle.std.proofs.lemmas.List.{append-nil, take_all, length-take-le, take-replicate, length-replicate}
-use Rattle.std.proofs.Math.Seq.{take-append-add}
-use Rattle.std.proofs.lemmas.Grind.{flat_map-append}
-use Rattle.hb_look.specs.Looks.{Got, Gone, LookMade}
 use Rattle.hb_flow.specs.declared.event.Event.{Event}
 use Rattle.hb_session.specs.declared.loss.Loss.{Loss}
-use Rattle.hb_session.specs.declared.selection.Selection.{Selection}
-use Rattle.hb_session.specs.Events.{event_of_record, lost_event}
-use Rattle.hb_session.specs.Marks.{Mark, Read, Over, marks_of, marks, Part, Record, Stretch, parts_of, closed}
-use Rattle.hb_session.specs.Forward.{given_of, is_through, forward}
 use Rattle.hb_session.specs.Steps.{loss_count}
 use Rattle.hb_session.specs.Stands.{open_part}
-use Rattle.hb_session.proofs.Parts.{IsOpen, parts_read, closed_record, closed_stretch, more_over}
+use Rattle.hb_session.specs.Marks.{Mark, Read, Over, Part, Record, Stretch, with_over, parts_of, closed, passed_over, marks_of, marks}
+use Rattle.std.specs.List.{flat_map}
+use Rattle.std.proofs.lemmas.Bool.{cases_lt, eqb-false}
+use Rattle.std.proofs.Math.Seq.{take-append-add}
+use Rattle.std.proofs.lemmas.Grind.{flat_map-append}
+use Rattle.hb_look.specs.Looks.{Found, Got, Gone, LookMade}
+use Rattle.hb_session.specs.Openings.{Opening}
+use Rattle.hb_session.specs.Events.{event_of_record, lost_event}
+use Rattle.hb_session.specs.Forward.{given_of, is_through, forward}
 use Rattle.hb_session.proofs.Bools.{same_if}
+
+-- ---- the parts of positions, when more positions follow
+
+-- a stretch that is open at the end of positions
+abbrev pub IsOpen : List Mark → Option Loss → Type 0
+IsOpen marks loss = parts_of marks ≡ closed (parts_of marks) ++ open_part loss
+
+-- one more overwritten position after parts
+abbrev add_over : ℕ → List Part → List Part
+add_over m [] = Stretch 1 m ∷ []
+add_over m (Record e ∷ ps) = Record e ∷ add_over m ps
+add_over m (Stretch c x ∷ []) = Stretch (suc c) m ∷ []
+add_over m (Stretch c x ∷ p ∷ ps) = Stretch c x ∷ add_over m (p ∷ ps)
+
+over_both : (x m : ℕ) (ps : List Part) → with_over x (add_over m ps) ≡ add_over m (with_over x ps)
+over_both x m [] = refl
+over_both x m (Record e ∷ ps) = refl
+over_both x m (Stretch c y ∷ []) = refl
+over_both x m (Stretch c y ∷ p ∷ ps) = refl
+
+parts_over : (ms : List Mark) (m : ℕ) → parts_of (ms ++ Over m ∷ []) ≡ add_over m (parts_of ms)
+parts_over [] m = refl
+parts_over (Read e ∷ ms) m = ap (λ ps. Record e ∷ ps) (parts_over ms m)
+parts_over (Over x ∷ ms) m = ap (with_over x) (parts_over ms m) ∙ over_both x m (parts_of ms)
+
+over_record : (x : ℕ) (ps : List Part) (e : Option Event) → with_over x (ps ++ Record e ∷ []) ≡ with_over x ps ++ Record e ∷ []
+over_record x [] e = refl
+over_record x (Record y ∷ ps) e = refl
+over_record x (Stretch c y ∷ ps) e = refl
+
+-- with one more record
+pub parts_read : (ms : List Mark) (e : Option Event) → parts_of (ms ++ Read e ∷ []) ≡ parts_of ms ++ Record e ∷ []
+parts_read [] e = refl
+parts_read (Read x ∷ ms) e = ap (λ ps. Record x ∷ ps) (parts_read ms e)
+parts_read (Over x ∷ ms) e = ap (with_over x) (parts_read ms e) ∙ over_record x (parts_of ms) e
+
+-- parts that a record ends are closed
+pub closed_record : (ps : List Part) (e : Option Event) → closed (ps ++ Record e ∷ []) ≡ ps ++ Record e ∷ []
+closed_record [] e = refl
+closed_record (Record x ∷ ps) e = ap (λ qs. Record x ∷ qs) (closed_record ps e)
+closed_record (Stretch c x ∷ []) e = refl
+closed_record (Stretch c x ∷ p ∷ ps) e = ap (λ qs. Stretch c x ∷ qs) (closed_record (p ∷ ps) e)
+
+-- a stretch that ends parts is open
+pub closed_stretch : (ps : List Part) (c m : ℕ) → closed (ps ++ Stretch c m ∷ []) ≡ ps
+closed_stretch [] c m = refl
+closed_stretch (Record x ∷ ps) c m = ap (λ qs. Record x ∷ qs) (closed_stretch ps c m)
+closed_stretch (Stretch d x ∷ []) c m = refl
+closed_stretch (Stretch d x ∷ p ∷ ps) c m = ap (λ qs. Stretch d x ∷ qs) (closed_stretch (p ∷ ps) c m)
+
+-- one more overwritten position, after a stretch
+after_stretch : (ps : List Part) (c x m : ℕ) → add_over m (ps ++ Stretch c x ∷ []) ≡ ps ++ Stretch (suc c) m ∷ []
+after_stretch [] c x m = refl
+after_stretch (Record e ∷ ps) c x m = ap (λ qs. Record e ∷ qs) (after_stretch ps c x m)
+after_stretch (Stretch d y ∷ []) c x m = refl
+after_stretch (Stretch d y ∷ p ∷ ps) c x m = ap (λ qs. Stretch d y ∷ qs) (after_stretch (p ∷ ps) c x m)
+
+-- and where no stretch is open
+after_closed : (ps : List Part) (m : ℕ) → ps ≡ closed ps → add_over m ps ≡ ps ++ Stretch 1 m ∷ []
+after_closed [] m e = refl
+after_closed (Record x ∷ ps) m e = ap (λ qs. Record x ∷ qs) (after_closed ps m (ap (drop 1) e))
+after_closed (Stretch d y ∷ []) m e = absurd (let none : 1 ≡ 0 = ap length e in omega arith)
+after_closed (Stretch d y ∷ p ∷ ps) m e = ap (λ qs. Stretch d y ∷ qs) (after_closed (p ∷ ps) m (ap (drop 1) e))
+
+-- one more overwritten position joins the open stretch, or opens one
+one_over : (ms : List Mark) (loss : Option Loss) (m : ℕ) → IsOpen ms loss
+    → parts_of (ms ++ Over m ∷ []) ≡ closed (parts_of ms) ++ Stretch (suc (loss_count loss)) m ∷ []
+one_over ms None m is =
+    let same : parts_of ms ≡ closed (parts_of ms) = is ∙ append-nil (closed (parts_of ms)) in
+    parts_over ms m ∙ after_closed (parts_of ms) m same ∙ ap (λ (ps : List Part). ps ++ Stretch 1 m ∷ []) same
+one_over ms (Some loss) m is =
+    parts_over ms m ∙ ap (add_over m) is ∙ after_stretch (closed (parts_of ms)) loss.count loss.moment m
+
+-- and so do several, found at one moment
+pub more_over : (k : ℕ) (ms : List Mark) (loss : Option Loss) (m : ℕ) → IsOpen ms loss
+    → parts_of (ms ++ replicate (suc k) (Over m)) ≡ closed (parts_of ms) ++ Stretch (loss_count loss + suc k) m ∷ []
+more_over zero ms loss m is =
+    let same : suc (loss_count loss) ≡ loss_count loss + 1 = omega arith in
+    one_over ms loss m is ∙ ap (λ (n : ℕ). closed (parts_of ms) ++ Stretch n m ∷ []) same
+more_over (suc k) ms loss m is =
+    let one = one_over ms loss m is in
+    let same : suc (loss_count loss) + suc k ≡ loss_count loss + suc (suc k) = omega arith in
+    let next : Loss = record { count = suc (loss_count loss); moment = m } in
+    let shut : closed (parts_of (ms ++ Over m ∷ [])) ≡ closed (parts_of ms) =
+    ap closed one ∙ closed_stretch (closed (parts_of ms)) (suc (loss_count loss)) m in
+    let open_is : IsOpen (ms ++ Over m ∷ []) (Some next) = one ∙ ap (λ (ps : List Part). ps ++ open_part (Some next)) (sym shut) in
+    ap parts_of (sym (append_assoc ms (Over m ∷ []) (replicate (suc k) (Over m))))
+    ∙ more_over k (ms ++ Over m ∷ []) (Some next) m open_is
+    ∙ ap (λ (ps : List Part). ps ++ Stretch (suc (loss_count loss) + suc k) m ∷ []) shut
+    ∙ ap (λ (n : ℕ). closed (parts_of ms) ++ Stretch n m ∷ []) same
+
+-- ---- the window
 
 -- all positions that looks passed over, however many
 abbrev pub all_marks : List LookMade → List Mark
@@ -44,49 +135,46 @@ marks_with size looks look not =
     ∙ take-append-add all (marks_of look) (size - length all)
     ∙ ap (λ (ms : List Mark). ms ++ take (size - length ms) (marks_of look)) (sym is.0)
 
-abbrev pub got : ℕ → ℕ → List ℕ → LookMade
-got position moment bytes = record { position = position; found = Got bytes; moment = moment }
-
-abbrev pub gone : ℕ → ℕ → ℕ → LookMade
-gone position moment next = record { position = position; found = Gone next; moment = moment }
-
-pub marks_got : (size position moment : ℕ) (bytes : List ℕ) (looks : List LookMade) → is_through size looks ≡ false
-    → marks size (looks ++ got position moment bytes ∷ []) ≡ marks size looks ++ Read (event_of_record bytes) ∷ []
-marks_got size position moment bytes looks not =
+pub marks_got : (size : ℕ) (looks : List LookMade) (look : LookMade) (bytes : List ℕ) → is_through size looks ≡ false → look.found ≡ Got bytes
+    → marks size (looks ++ look ∷ []) ≡ marks size looks ++ Read (event_of_record bytes) ∷ []
+marks_got size looks look bytes not found =
     let is = not_through size looks not in
     let fewer : length (marks size looks) < size = omega (arith, ap length is.0, is.1) in
-    marks_with size looks (got position moment bytes) not
-    ∙ ap (λ (ms : List Mark). marks size looks ++ ms)
-    (take_all (size - length (marks size looks)) (Read (event_of_record bytes) ∷ []) (omega (arith, fewer)))
+    let room : ℕ = size - length (marks size looks) in
+    marks_with size looks look not
+    ∙ ap (λ (f : Found). marks size looks ++ take room (passed_over look.position look.moment f)) found
+    ∙ ap (λ (ms : List Mark). marks size looks ++ ms) (take_all room (Read (event_of_record bytes) ∷ []) (omega (arith, fewer)))
 
 -- what is given, before the window's end
-pub forward_open : (s : Selection) (size : ℕ) (looks : List LookMade) → is_through size looks ≡ false
-    → forward s size looks ≡ flat_map (given_of s) (closed (parts_of (marks size looks)))
-forward_open s size looks not = ap (λ (b : Bool). flat_map (given_of s) (cond b (parts_of (marks size looks)) (closed (parts_of (marks size looks))))) not
+pub forward_open : (o : Opening) (looks : List LookMade) → is_through o.size looks ≡ false
+    → forward o looks ≡ flat_map (given_of o.request) (closed (parts_of (marks o.size looks)))
+forward_open o looks not =
+    ap (λ (b : Bool). flat_map (given_of o.request) (cond b (parts_of (marks o.size looks)) (closed (parts_of (marks o.size looks))))) not
 
 -- a record that is read ends the open stretch
-pub forward_got : (s : Selection) (size position moment : ℕ) (bytes : List ℕ) (looks : List LookMade) (loss : Option Loss)
-    → is_through size looks ≡ false → IsOpen (marks size looks) loss
-    → (forward s size (looks ++ got position moment bytes ∷ [])
-    ≡ forward s size looks ++ (flat_map (given_of s) (open_part loss) ++ given_of s (Record (event_of_record bytes))))
-    × IsOpen (marks size (looks ++ got position moment bytes ∷ [])) None
-forward_got s size position moment bytes looks loss not is =
+pub with_got : (o : Opening) (looks : List LookMade) (look : LookMade) (bytes : List ℕ) (loss : Option Loss)
+    → is_through o.size looks ≡ false → IsOpen (marks o.size looks) loss → look.found ≡ Got bytes
+    → (forward o (looks ++ look ∷ [])
+    ≡ forward o looks ++ (flat_map (given_of o.request) (open_part loss) ++ given_of o.request (Record (event_of_record bytes))))
+    × IsOpen (marks o.size (looks ++ look ∷ [])) None
+with_got o looks look bytes loss not is found =
     let event = event_of_record bytes in
-    let ms = marks size looks in
+    let g = given_of o.request in
+    let ms = marks o.size looks in
     let ps = parts_of ms in
-    let new = looks ++ got position moment bytes ∷ [] in
-    let read : parts_of (marks size new) ≡ ps ++ Record event ∷ [] = ap parts_of (marks_got size position moment bytes looks not) ∙ parts_read ms event in
-    let shut : closed (parts_of (marks size new)) ≡ ps ++ Record event ∷ [] = ap closed read ∙ closed_record ps event in
-    let given : forward s size new ≡ flat_map (given_of s) (ps ++ Record event ∷ []) =
-    ap (flat_map (given_of s)) (same_if (is_through size new) (parts_of (marks size new)) (closed (parts_of (marks size new))) (ps ++ Record event ∷ []) read shut) in
-    let before : flat_map (given_of s) ps ≡ forward s size looks ++ flat_map (given_of s) (open_part loss) =
-    ap (flat_map (given_of s)) is ∙ flat_map-append (given_of s) (closed ps) (open_part loss)
-    ∙ ap (λ (es : List Event). es ++ flat_map (given_of s) (open_part loss)) (sym (forward_open s size looks not)) in (
-      given ∙ flat_map-append (given_of s) ps (Record event ∷ [])
-          ∙ ap (λ (es : List Event). flat_map (given_of s) ps ++ es) (append-nil (given_of s (Record event)))
-          ∙ ap (λ (es : List Event). es ++ given_of s (Record event)) before
-          ∙ append_assoc (forward s size looks) (flat_map (given_of s) (open_part loss)) (given_of s (Record event)),
-      read ∙ sym shut ∙ sym (append-nil (closed (parts_of (marks size new)))),
+    let new = looks ++ look ∷ [] in
+    let read : parts_of (marks o.size new) ≡ ps ++ Record event ∷ [] = ap parts_of (marks_got o.size looks look bytes not found) ∙ parts_read ms event in
+    let shut : closed (parts_of (marks o.size new)) ≡ ps ++ Record event ∷ [] = ap closed read ∙ closed_record ps event in
+    let all : forward o new ≡ flat_map g (ps ++ Record event ∷ []) =
+    ap (flat_map g) (same_if (is_through o.size new) (parts_of (marks o.size new)) (closed (parts_of (marks o.size new))) (ps ++ Record event ∷ []) read shut) in
+    let before : flat_map g ps ≡ forward o looks ++ flat_map g (open_part loss) =
+    ap (flat_map g) is ∙ flat_map-append g (closed ps) (open_part loss)
+    ∙ ap (λ (es : List Event). es ++ flat_map g (open_part loss)) (sym (forward_open o looks not)) in (
+      all ∙ flat_map-append g ps (Record event ∷ [])
+          ∙ ap (λ (es : List Event). flat_map g ps ++ es) (append-nil (g (Record event)))
+          ∙ ap (λ (es : List Event). es ++ g (Record event)) before
+          ∙ append_assoc (forward o looks) (flat_map g (open_part loss)) (g (Record event)),
+      read ∙ sym shut ∙ sym (append-nil (closed (parts_of (marks o.size new)))),
     )
 
 replicate_upto : {A : Type 0} (most n : ℕ) (x : A) → take most (replicate n x) ≡ replicate (min n most) x
@@ -104,41 +192,47 @@ replicate_upto most n x =
 abbrev pub gone_size : ℕ → List LookMade → ℕ → ℕ → ℕ
 gone_size size looks position next = min (next - position) (size - length (marks size looks))
 
-pub marks_gone : (size position moment next : ℕ) (looks : List LookMade) → is_through size looks ≡ false
-    → marks size (looks ++ gone position moment next ∷ []) ≡ marks size looks ++ replicate (gone_size size looks position next) (Over moment)
-marks_gone size position moment next looks not =
-    marks_with size looks (gone position moment next) not
-    ∙ ap (λ (ms : List Mark). marks size looks ++ ms) (replicate_upto (size - length (marks size looks)) (next - position) (Over moment))
+pub marks_gone : (size : ℕ) (looks : List LookMade) (look : LookMade) (next : ℕ) → is_through size looks ≡ false → look.found ≡ Gone next
+    → marks size (looks ++ look ∷ []) ≡ marks size looks ++ replicate (gone_size size looks look.position next) (Over look.moment)
+marks_gone size looks look next not found =
+    let room : ℕ = size - length (marks size looks) in
+    marks_with size looks look not
+    ∙ ap (λ (f : Found). marks size looks ++ take room (passed_over look.position look.moment f)) found
+    ∙ ap (λ (ms : List Mark). marks size looks ++ ms) (replicate_upto room (next - look.position) (Over look.moment))
 
--- what is given of parts that a stretch ends, at the window's end or before it
-given_at_end : (s : Selection) (end : Bool) (ps shut : List Part) (loss : Loss) → ps ≡ shut ++ Stretch loss.count loss.moment ∷ [] → closed ps ≡ shut
-    → flat_map (given_of s) (cond end ps (closed ps)) ≡ flat_map (given_of s) shut ++ cond end (lost_event loss.count loss.moment ∷ []) []
-given_at_end s true ps shut loss is closed_is = ap (flat_map (given_of s)) is ∙ flat_map-append (given_of s) shut (Stretch loss.count loss.moment ∷ [])
-given_at_end s false ps shut loss is closed_is = ap (flat_map (given_of s)) closed_is ∙ sym (append-nil (flat_map (given_of s) shut))
+given_at_end : (o : Opening) (end : Bool) (ps shut : List Part) (loss : Loss) → ps ≡ shut ++ Stretch loss.count loss.moment ∷ [] → closed ps ≡ shut
+    → flat_map (given_of o.request) (cond end ps (closed ps))
+    ≡ flat_map (given_of o.request) shut ++ cond end (lost_event loss.count loss.moment ∷ []) []
+given_at_end o true ps shut loss is closed_is =
+    ap (flat_map (given_of o.request)) is ∙ flat_map-append (given_of o.request) shut (Stretch loss.count loss.moment ∷ [])
+given_at_end o false ps shut loss is closed_is =
+    ap (flat_map (given_of o.request)) closed_is ∙ sym (append-nil (flat_map (given_of o.request) shut))
 
 -- positions that are found overwritten join the open stretch, which is given at the window's end
-pub forward_gone : (s : Selection) (size position moment next : ℕ) (looks : List LookMade) (loss : Option Loss)
-    → is_through size looks ≡ false → IsOpen (marks size looks) loss → position < next
-    → (new : Loss) → new ≡ record { count = loss_count loss + gone_size size looks position next; moment = moment }
-    → (forward s size (looks ++ gone position moment next ∷ [])
-    ≡ forward s size looks ++ cond (is_through size (looks ++ gone position moment next ∷ [])) (lost_event new.count new.moment ∷ []) [])
-    × IsOpen (marks size (looks ++ gone position moment next ∷ [])) (Some new)
-forward_gone s size position moment next looks loss not is moves new is_new =
-    let ms = marks size looks in
+pub with_gone : (o : Opening) (looks : List LookMade) (look : LookMade) (next : ℕ) (loss : Option Loss) (new : Loss)
+    → is_through o.size looks ≡ false → IsOpen (marks o.size looks) loss → look.found ≡ Gone next → look.position < next
+    → new.count ≡ loss_count loss + gone_size o.size looks look.position next → new.moment ≡ look.moment
+    → (forward o (looks ++ look ∷ [])
+    ≡ forward o looks ++ cond (is_through o.size (looks ++ look ∷ [])) (lost_event new.count new.moment ∷ []) [])
+    × IsOpen (marks o.size (looks ++ look ∷ [])) (Some new)
+with_gone o looks look next loss new not is found moves count at =
+    let ms = marks o.size looks in
     let ps = parts_of ms in
-    let k = gone_size size looks position next in
-    let all = looks ++ gone position moment next ∷ [] in
-    let fewer : length ms < size = omega (arith, ap length (not_through size looks not).0, (not_through size looks not).1) in
+    let k = gone_size o.size looks look.position next in
+    let all = looks ++ look ∷ [] in
+    let through : Bool = is_through o.size all in
+    let fewer : length ms < o.size = omega (arith, ap length (not_through o.size looks not).0, (not_through o.size looks not).1) in
     let some : k ≡ suc (k - 1) = omega (arith, fewer, moves) in
     let stretch : Part = Stretch new.count new.moment in
-    let counted : Stretch (loss_count loss + suc (k - 1)) moment ≡ stretch =
-    ap (λ (n : ℕ). Stretch (loss_count loss + n) moment) (sym some) ∙ ap (λ (l : Loss). Stretch l.count l.moment) (sym is_new) in
-    let parts : parts_of (marks size all) ≡ closed ps ++ stretch ∷ [] =
-    ap parts_of (marks_gone size position moment next looks not ∙ ap (λ (n : ℕ). ms ++ replicate n (Over moment)) some)
-    ∙ more_over (k - 1) ms loss moment is
+    let counts : loss_count loss + suc (k - 1) ≡ new.count = omega (arith, some, count) in
+    let counted : Stretch (loss_count loss + suc (k - 1)) look.moment ≡ stretch =
+    ap (λ (n : ℕ). Stretch n look.moment) counts ∙ ap (λ (m : ℕ). Stretch new.count m) (sym at) in
+    let parts : parts_of (marks o.size all) ≡ closed ps ++ stretch ∷ [] =
+    ap parts_of (marks_gone o.size looks look next not found ∙ ap (λ (n : ℕ). ms ++ replicate n (Over look.moment)) some)
+    ∙ more_over (k - 1) ms loss look.moment is
     ∙ ap (λ (p : Part). closed ps ++ p ∷ []) counted in
-    let shut : closed (parts_of (marks size all)) ≡ closed ps = ap closed parts ∙ closed_stretch (closed ps) new.count new.moment in (
-      given_at_end s (is_through size all) (parts_of (marks size all)) (closed ps) new parts shut
-          ∙ ap (λ (es : List Event). es ++ cond (is_through size all) (lost_event new.count new.moment ∷ []) []) (sym (forward_open s size looks not)),
+    let shut : closed (parts_of (marks o.size all)) ≡ closed ps = ap closed parts ∙ closed_stretch (closed ps) new.count new.moment in (
+      given_at_end o through (parts_of (marks o.size all)) (closed ps) new parts shut
+          ∙ ap (λ (es : List Event). es ++ cond through (lost_event new.count new.moment ∷ []) []) (sym (forward_open o looks not)),
       parts ∙ ap (λ (qs : List Part). qs ++ stretch ∷ []) (sym shut),
     )

@@ -1,10 +1,14 @@
 pub mod Window
+pub mod Openings
 pub mod Events
 pub mod Marks
 pub mod Forward
 pub mod Backward
 pub mod Replies
+pub mod Refusals
 pub mod Steps
+pub mod Ways
 pub mod Stands
+pub mod Works
 pub mod Sessions
 pub mod Whole

@@ -5,7 +5,8 @@ use Rattle.hb_look.specs.Looks.{Found, Got, Gone, NotYet, LookMade}
 use Rattle.hb_flow.specs.declared.event.Event.{Event}
 use Rattle.hb_session.specs.Events.{event_of_record}
 
--- a position: its record was read, and holds this event, if any; or it was found overwritten at this moment
+-- a position: its record was read, and holds this event, if any; or it was found overwritten at
+-- this moment
 pub data Mark : Type 0 where
   Read : (event : Option Event) → Mark
   Over : (moment : ℕ) → Mark
@@ -23,7 +24,8 @@ marks_of look = passed_over look.position look.moment look.found
 abbrev pub marks : ℕ → List LookMade → List Mark
 marks size looks = take size (flat_map marks_of looks)
 
--- a record that was read, or a stretch: neighbouring positions that were overwritten, and when the last of them was found so
+-- a record that was read, or a stretch: neighbouring positions that were overwritten, and when the
+-- last of them was found so
 pub data Part : Type 0 where
   Record : (event : Option Event) → Part
   Stretch : (count moment : ℕ) → Part

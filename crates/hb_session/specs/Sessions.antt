@@ -1,59 +1,120 @@
--- A session: its reply, and what was taken of it.
-use Rattle.std.specs.Prelude.{◌≡◌, ◌≢◌, ◌↔◌, ◌⊎◌, ℕ, ◌-◌, ◌^◌, ◌<◌, ◌≤◌, List, ◌++◌, length, take, drop, min, Option, Some, None, true}
-use Rattle.std.specs.List.{All}
+-- A session: its source of frames, what waits of them, and what was taken.
+use Rattle.std.specs.Prelude.{◌≡◌, ◌≢◌, ◌↔◌, ◌⊎◌, ℕ, ◌+◌, ◌-◌, ◌^◌, ◌<◌, ◌≤◌, ◌&&◌, nat_le, true, false, List, [], ◌∷◌, ◌++◌, length, take, min, Option, Some, None, if◌then◌else◌}
+use Rattle.std.specs.List.{fold, flat_map}
+use Rattle.hb_edge.specs.declared.link.Moved.{Moved}
+use Rattle.hb_edge.specs.declared.link.Moved.TheVariants as moves
 use Rattle.hb_look.specs.Looks.{LookMade}
-use Rattle.hb_look.specs.Answers.{IsFoundAt}
+use Rattle.hb_session.specs.declared.counts.Counts.{Counts}
 use Rattle.hb_session.specs.declared.turn.Turn.{Turn}
 use Rattle.hb_session.specs.declared.turn.Turn.TheVariants as turns
-use Rattle.hb_session.specs.Replies.{Opening, has_ended, owed, AreMade}
-use Rattle.hb_session.specs.Steps.{ReplyState}
-use Rattle.hb_session.specs.Stands.{ReplyStandsFor}
+use Rattle.hb_session.specs.Openings.{Opening}
+use Rattle.hb_session.specs.Replies.{has_ended, owed, spelled, AreMade}
+use Rattle.hb_session.specs.Stands.{Source, SourceStandsFor, counts_of, counted, left}
 
--- what a session has: its reply, how many bytes were taken, the moment of its last turn, and the answer that it has ended with
+-- what a session has: its source, the bytes that wait to be taken, how many were taken, the
+-- greatest moment that it was told, and the answer that it has ended with
 pub record Session : Type 0 where
-  pub reply : ReplyState
+  pub source : Source
+  pub waiting : List ℕ
   pub sent : ℕ
   pub moment : ℕ
   pub answer : Option Turn
 
--- Bytes are the first of what is owed: a count that stands at its greatest value says no more than that.
+-- Bytes are the first of what is owed: a count that stands at its greatest value says no more
+-- than that.
 abbrev pub IsSent : ℕ → List ℕ → List ℕ → Type 0
-IsSent sent taken owed = (sent ≡ min (length taken) (2 ^ 64 - 1)) × (take (length taken) owed ≡ taken)
+IsSent sent taken owed = (sent ≡ min (length taken) (2 ^ 64 - 1))
+    × (take (length taken) owed ≡ taken)
 
--- A session stands for the looks that were made for it, of which these bytes were taken: each look is where those before it lead
--- to, and the bytes are the first of what is owed. Where memory was not refused, what waits is the rest of it.
+-- The counts are those of looks, or of all but the last one, whose record could not be read for
+-- want of memory.
+abbrev pub AreCounted : Opening → List LookMade → Counts → Type 0
+AreCounted o looks counts = (counts ≡ counted o looks)
+    ⊎ ((before : List LookMade) × (last : LookMade) × (looks ≡ before ++ last ∷ [])
+    × (counts ≡ counted o before))
+
+-- what a session is to which memory was not refused: its source stands for the looks, and what
+-- waits is the rest of what is owed
+abbrev pub IsGoing : Session → List LookMade → List ℕ → Type 0
+IsGoing s looks taken = SourceStandsFor s.source looks
+    × (taken ++ s.waiting ≡ spelled (owed s.source.opening looks))
+
+-- A session stands for the looks that were made for it, of which these bytes were taken: each
+-- look is where those before it lead to, and the bytes are the first of what is owed. Where
+-- memory was not refused, what waits is the rest of it.
 pub record SessionStandsFor (s : Session) (looks : List LookMade) (taken : List ℕ) : Type 0 where
-  pub made : AreMade s.reply.opening looks
-  pub sent : IsSent s.sent taken (owed s.reply.opening looks)
-  pub reply : s.answer ≢ Some turns.NoMemory → ReplyStandsFor s.reply looks taken
-
--- the looks by which a reader's list has grown
-abbrev pub added : List LookMade → List LookMade → List LookMade
-added old new = drop (length old) new
-
--- a list of looks has grown by one look at most, which was made at this moment
-abbrev pub IsListed : List LookMade → List LookMade → ℕ → Type 0
-IsListed old new moment = (new ≡ old ++ added old new) × (length (added old new) ≤ 1) × All (λ look. look.moment ≡ moment) (added old new)
-
--- what the looks found by which it has grown is what there is to find, where a ring of this capacity has this log
-abbrev pub AreFoundAt : List (List ℕ) → ℕ → List LookMade → List LookMade → Type 0
-AreFoundAt log cap old new = All (λ look. IsFoundAt log cap look.position look.found) (added old new)
+  pub made : AreMade s.source.opening looks
+  pub sent : IsSent s.sent taken (spelled (owed s.source.opening looks))
+  pub counts : AreCounted s.source.opening looks (counts_of s.source)
+  pub going : s.answer ≢ Some turns.NoMemory → IsGoing s looks taken
 
 -- the bytes that were taken of what waited, where nothing was added to it
-abbrev pub gained : ReplyState → ReplyState → List ℕ
+abbrev pub gained : Session → Session → List ℕ
 gained old new = take (length old.waiting - length new.waiting) old.waiting
 
--- a link is as it was, or as a write of this piece leaves it
-abbrev pub IsWritten : {A : Type 0} → (A → List ℕ → A) → List ℕ → A → A → Type 0
-IsWritten write_after piece old new = (new ≡ old) ⊎ (new ≡ write_after old piece)
+-- Turns made a session out of another, with these looks more, and these bytes that were taken;
+-- there are no more looks than positions of the window were left.
+pub record HaveTurned (old new : Session) (looks : List LookMade) (bytes : List ℕ) : Type 0 where
+  pub opening : new.source.opening ≡ old.source.opening
+  pub stands : (before : List LookMade) (taken : List ℕ) → SessionStandsFor old before taken
+      → SessionStandsFor new (before ++ looks) (taken ++ bytes)
+  pub most : length looks ≤ left old.source
+  pub fewer : new.answer ≢ Some turns.NoMemory → left new.source + length looks ≤ left old.source
+
+-- A turn came nearer to the end: fewer positions are left or, of as many, fewer bytes wait.
+abbrev pub IsNearer : Session → Session → Type 0
+IsNearer old new = ((left new.source < left old.source) × (length new.waiting < 2 ^ 64))
+    ⊎ ((left new.source ≡ left old.source) × (length new.waiting < length old.waiting))
 
 -- The reply has ended, and all of it was taken.
 abbrev pub IsWhole : Opening → List LookMade → List ℕ → Type 0
-IsWhole o looks taken = (has_ended o looks ≡ true) × (taken ≡ owed o looks)
+IsWhole o looks taken = (has_ended o looks ≡ true) × (taken ≡ spelled (owed o looks))
 
--- how many positions of the window are left
-abbrev pub left : Session → ℕ
-left s = s.reply.opening.size - s.reply.passed
+-- Turns with these looks and bytes ended in Done exactly where the reply had ended and all of it
+-- was taken, but for want of memory.
+abbrev pub HasDone : Session → Turn → List LookMade → List ℕ → Type 0
+HasDone old answer looks bytes = (before : List LookMade) (taken : List ℕ)
+    → SessionStandsFor old before taken → old.answer ≡ None
+    → answer ≢ turns.NoMemory
+    → (answer ≡ turns.Done) ↔ IsWhole old.source.opening (before ++ looks) (taken ++ bytes)
+
+-- A turn answers this where a link answered the write of what waited so: it is done where all of
+-- it was taken and the reply has ended.
+abbrev pub IsAnswerTo : Session → Moved → Turn → Type 0
+IsAnswerTo s (moves.Took n) turn = turn ≡ (if s.source.ended && nat_le (length s.waiting) n
+    then turns.Done else turns.More)
+IsAnswerTo s moves.NotYet turn = turn ≡ turns.Idle
+IsAnswerTo s moves.End turn = ⊥
+IsAnswerTo s moves.Failed turn = turn ≡ turns.LinkFault
+
+-- of each of some writes of pieces, one after another, a link took bytes
+abbrev pub AreTaken : {A : Type 0} → (A → List ℕ → Moved) → (A → List ℕ → A) → A → List (List ℕ)
+    → Type 0
+AreTaken answer after link [] = Unit {0}
+AreTaken answer after link (piece ∷ pieces) = ((n : ℕ) × (answer link piece ≡ moves.Took n))
+    × AreTaken answer after (after link piece) pieces
+
+-- a link is as such writes leave it
+abbrev pub HasTaken : {A : Type 0} → (A → List ℕ → Moved) → (A → List ℕ → A) → A → A → Type 0
+HasTaken answer after old new = (pieces : List (List ℕ)) × (new ≡ fold after old pieces)
+    × AreTaken answer after old pieces
+
+-- after such writes it answered one more so
+abbrev pub HasAnswered : {A : Type 0} → (A → List ℕ → Moved) → (A → List ℕ → A) → A → A → Moved
+    → Type 0
+HasAnswered answer after old new moved = (pieces : List (List ℕ)) × (last : List ℕ)
+    × AreTaken answer after old pieces × (new ≡ after (fold after old pieces) last)
+    × (answer (fold after old pieces) last ≡ moved)
+
+-- How turns end over a link: it took bytes of each write, one after another, up to one that
+-- decides the answer where it took none.
+abbrev pub EndsBy : {A : Type 0} → (A → List ℕ → Moved) → (A → List ℕ → A) → A → A → Turn → Type 0
+EndsBy answer after old new turns.Idle = HasAnswered answer after old new moves.NotYet
+EndsBy answer after old new turns.LinkFault = HasAnswered answer after old new moves.Failed
+EndsBy answer after old new turns.More = HasTaken answer after old new
+EndsBy answer after old new turns.Done = HasTaken answer after old new
+EndsBy answer after old new turns.Spent = HasTaken answer after old new
+EndsBy answer after old new turns.NoMemory = HasTaken answer after old new
 
 -- the answer that a session has ended with, after a turn with this one
 abbrev pub ended_by : Turn → Option Turn
@@ -74,19 +135,22 @@ IsEnding (Some turns.LinkFault) = Unit {0}
 IsEnding (Some turns.Spent) = Unit {0}
 IsEnding (Some turns.NoMemory) = Unit {0}
 
--- A turn came nearer to the end: fewer positions are left or, of as many, fewer bytes wait.
-abbrev pub IsNearer : Session → Session → Type 0
-IsNearer old new = (left new < left old) ⊎ ((left new ≡ left old) × (length new.reply.waiting < length old.reply.waiting))
+-- while a reply goes on, its source has a position to look at; once it has ended, bytes wait
+abbrev pub IsReady : Source → List ℕ → Type 0
+IsReady source waiting = (source.ended ≡ false → 0 < left source)
+    × (source.ended ≡ true → 0 < length waiting)
 
--- Turns made a session out of another: they added looks to a reader's list, and the link took these bytes.
-pub record HaveTurned (old new : Session) (before after : List LookMade) (gained : List ℕ) : Type 0 where
-  pub opening : new.reply.opening ≡ old.reply.opening
-  pub listed : after ≡ before ++ added before after
-  pub spent : length (added before after) ≤ left old
-  pub stands : (looks : List LookMade) (taken : List ℕ) → SessionStandsFor old looks taken
-      → SessionStandsFor new (looks ++ added before after) (taken ++ gained)
+-- a turn that was made: its looks, and the bytes that the link took
+pub record TurnMade : Type 0 where
+  pub looks : List LookMade
+  pub bytes : List ℕ
 
--- Turns from a session on ended in Done exactly where its reply had ended and all of it was taken, but for want of memory.
-abbrev pub HasDone : Session → Turn → List LookMade → List ℕ → Type 0
-HasDone old answer more gained = (looks : List LookMade) (taken : List ℕ) → SessionStandsFor old looks taken → old.answer ≡ None → answer ≢ turns.NoMemory
-    → (answer ≡ turns.Done) ↔ IsWhole old.reply.opening (looks ++ more) (taken ++ gained)
+-- it made a look, or handed on a byte
+abbrev pub HasMoved : TurnMade → Type 0
+HasMoved turn = 0 < length turn.bytes + length turn.looks
+
+abbrev pub all_looks : List TurnMade → List LookMade
+all_looks turns = flat_map (λ turn. turn.looks) turns
+
+abbrev pub all_bytes : List TurnMade → List ℕ
+all_bytes turns = flat_map (λ turn. turn.bytes) turns

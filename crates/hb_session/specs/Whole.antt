@@ -1,24 +1,26 @@
 -- The whole reply from a ring that is no longer written: each look of the session gets its record.
-use Rattle.std.specs.Prelude.{◌≡◌, ◌⊎◌, ℕ, ◌+◌, ◌<◌, List, ◌++◌, length, map, take, drop, true, Some, slice_get}
-use Rattle.std.specs.List.{filter, flat_map, AllByRecursion}
+use Rattle.std.specs.Prelude.{◌≡◌, ◌⊎◌, ℕ, ◌+◌, ◌<◌, List, [], ◌∷◌, ◌++◌, length, map, take, drop, true, Some, slice_get}
+use Rattle.std.specs.List.{filter, AllByRecursion}
 use Rattle.hb_look.specs.Looks.{LookMade, Got}
 use Rattle.hb_flow.specs.declared.event.Event.{Event}
-use Rattle.hb_session.specs.Events.{event_of_record, passes}
-use Rattle.hb_session.specs.Forward.{flows}
-use Rattle.hb_session.specs.Replies.{Opening, owed, has_ended, event_frame, ok_frame, AreMade}
+use Rattle.hb_session.specs.Openings.{Opening}
+use Rattle.hb_session.specs.Events.{event_of_record, passes, flows}
+use Rattle.hb_session.specs.Replies.{owed, spelled, has_ended, event_frames, status_frame, AreMade}
 
--- a look found the record that the log has at its position, at the moment 0
-abbrev pub IsGot : List (List ℕ) → LookMade → Type 0
-IsGot log look = (bytes : List ℕ) × (look.found ≡ Got bytes) × (slice_get log look.position ≡ Some bytes)
-    × (look.moment ≡ 0)
+-- a look at a ring of this capacity found the record that the log has at its position, at the
+-- moment 0
+abbrev pub IsGot : ℕ → List (List ℕ) → LookMade → Type 0
+IsGot cap log look = (bytes : List ℕ) × (look.found ≡ Got bytes)
+    × (slice_get log look.position ≡ Some bytes) × (look.moment ≡ 0) × (look.capacity ≡ cap)
 
--- the bytes are the whole of what a session owes whose looks each got their record
-pub record IsReply (o : Opening) (log : List (List ℕ)) (bytes : List ℕ) : Type 0 where
+-- the bytes are the whole of what a session owes whose looks at a ring of this capacity each got
+-- their record
+pub record IsReply (o : Opening) (cap : ℕ) (log : List (List ℕ)) (bytes : List ℕ) : Type 0 where
   pub looks : List LookMade
   pub made : AreMade o looks
-  pub got : AllByRecursion (IsGot log) looks
+  pub got : AllByRecursion (IsGot cap log) looks
   pub ended : has_ended o looks ≡ true
-  pub whole : bytes ≡ owed o looks
+  pub whole : bytes ≡ spelled (owed o looks)
 
 -- ---- the same by the events of the window
 
@@ -29,22 +31,22 @@ pub record HasEvents (o : Opening) (log : List (List ℕ)) (events : List Event)
 
 -- those of the events that pass
 abbrev pub passing : Opening → List Event → List Event
-passing o events = filter (passes o.selection) events
+passing o events = filter (passes o.request) events
 
--- the frames of events, and that of the status
+-- the bytes of the frames of events, and of that of the status
 abbrev pub frames_of : Opening → List Event → List ℕ
-frames_of o events = flat_map (event_frame o.name) events ++ ok_frame
+frames_of o events = spelled (event_frames o.name events ++ status_frame ∷ [])
 
--- Bytes give what passes of the first events up to a count, the least at which there are as many flows
--- as are asked for, or of all events.
+-- Bytes give what passes of the first events up to a count, the least at which there are as many
+-- flows as are asked for, or of all events.
 abbrev pub GivesFirst : Opening → List Event → List ℕ → Type 0
 GivesFirst o events bytes = (count : ℕ) × (bytes ≡ frames_of o (passing o (take count events)))
-    × ((fewer : ℕ) → fewer < count → flows (passing o (take fewer events)) < o.selection.number)
-    × ((take count events ≡ events) ⊎ (flows (passing o (take count events)) ≡ o.selection.number))
+    × ((fewer : ℕ) → fewer < count → flows (passing o (take fewer events)) < o.request.number)
+    × ((take count events ≡ events) ⊎ (flows (passing o (take count events)) ≡ o.request.number))
 
--- Bytes give what passes of the last events from a start on, the latest from which there are as many
--- flows as are asked for, or of all events.
+-- Bytes give what passes of the last events from a start on, the latest from which there are as
+-- many flows as are asked for, or of all events.
 abbrev pub GivesLast : Opening → List Event → List ℕ → Type 0
 GivesLast o events bytes = (start : ℕ) × (bytes ≡ frames_of o (passing o (drop start events)))
-    × ((later : ℕ) → start < later → flows (passing o (drop later events)) < o.selection.number)
-    × ((start ≡ 0) ⊎ (flows (passing o (drop start events)) ≡ o.selection.number))
+    × ((later : ℕ) → start < later → flows (passing o (drop later events)) < o.request.number)
+    × ((start ≡ 0) ⊎ (flows (passing o (drop start events)) ≡ o.request.number))

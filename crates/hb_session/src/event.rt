@@ -2,7 +2,8 @@
 ghost use Rattle.std.specs.Prelude.{◌≡◌, IfOk};
 ghost use Rattle.hb_session.specs.Events.{event_of_record, lost_event, not_after, is_within, passes, is_flow};
 
-use crate::{Loss, Selection};
+use crate::Loss;
+use hb_api::GetFlowsRequest;
 use hb_flow::{DecodeFault, Event, Lost, LostEvent, event_of};
 use hb_time::{Stamp, of_moment};
 use hb_wire::{NoMemory, Seq};
@@ -46,14 +47,14 @@ fn not_after(a: Stamp, b: Stamp) -> bool
 }
 
 /// Whether a stamp is within the bounds that there are.
-fn is_within(selection: &Selection, stamp: Stamp) -> bool
-    ensures { result ≡ is_within selection.now stamp }
+fn is_within(request: &GetFlowsRequest, stamp: Stamp) -> bool
+    ensures { result ≡ is_within request.now stamp }
 {
-    let since = match selection.since {
+    let since = match request.since {
         Some(since) => not_after(since, stamp),
         None => true,
     };
-    let until = match selection.until {
+    let until = match request.until {
         Some(until) => not_after(stamp, until),
         None => true,
     };
@@ -61,11 +62,11 @@ fn is_within(selection: &Selection, stamp: Stamp) -> bool
 }
 
 /// Whether an event passes. A flow without a stamp counts as stamped at 0.
-pub(crate) fn passes(selection: &Selection, event: &Event) -> bool
-    ensures { result ≡ passes selection.now event.now }
+pub(crate) fn passes(request: &GetFlowsRequest, event: &Event) -> bool
+    ensures { result ≡ passes request.now event.now }
 {
     match event {
-        Event::Flow(flow) => is_within(selection, flow.time.unwrap_or(Stamp { secs: 0, nanos: 0 })),
+        Event::Flow(flow) => is_within(request, flow.time.unwrap_or(Stamp { secs: 0, nanos: 0 })),
         Event::Lost(_) => true,
     }
 }

@@ -7,25 +7,28 @@
 //! `Done`. What follows a window is not read.
 #![tactic(auto)]
 
+mod backward;
 mod counts;
 mod event;
 mod finishing;
+mod forward;
 mod laws;
 mod loss;
-mod reply;
-mod selection;
+mod opening;
+mod outbox;
 mod session;
+mod source;
 #[cfg(test)]
 mod tests;
 mod turn;
+mod way;
 mod whole;
 mod writer;
 
 pub use counts::Counts;
 pub use finishing::finish;
-pub use laws::{owed_only_grows, responses_fit, window_is_held};
-pub use loss::Loss;
-pub use selection::Selection;
+pub use laws::{owed_only_grows, responses_fit, turns_are_few, window_is_held};
+pub(crate) use loss::Loss;
 pub use session::NodeSession;
 pub use turn::{OpenFault, Turn};
 pub use whole::{first_of_window, last_of_window, one_reply, reply_of, whole_window};

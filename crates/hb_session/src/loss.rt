@@ -1,10 +1,10 @@
 //! A stretch that was lost.
 
 /// Neighbouring positions that were found overwritten, after the last record that was read.
-#[derive(Clone, Copy, Debug, PartialEq, Eq)]
-pub struct Loss {
+#[derive(Clone, Copy)]
+pub(crate) struct Loss {
     /// How many they are.
-    pub count: u64,
+    pub(crate) count: u64,
     /// The moment of the last look that found so.
-    pub moment: u64,
+    pub(crate) moment: u64,
 }

@@ -1,60 +1,59 @@
 //! One reply of a node, handed to a link turn by turn.
-ghost use Rattle.std.specs.Prelude.{◌≡◌, ◌≢◌, ◌↔◌, ◌⊎◌, ℕ, ◌+◌, ◌-◌, ◌^◌, ◌<◌, ◌≤◌, List, [], ◌++◌, length, drop, take, min, max, Option, Some, None, IfOk, IfErr, false, true};
+ghost use Rattle.std.specs.Prelude.{◌≡◌, ◌≢◌, ◌↔◌, ◌⊎◌, ◌+◌, ◌<◌, ◌≤◌, [], length, max, Option, Some, None, IfOk, IfErr, true};
 ghost use Rattle.std.specs.Option.{ForSome};
 ghost use Rattle.hb_edge.specs.Causes.{Rose};
-ghost use Rattle.std.specs.List.{All};
+ghost use Rattle.hb_edge.specs.Link.{HasWritten};
 ghost use Rattle.hb_api.specs.Limits.{longest_name};
-ghost use Rattle.hb_look.specs.Limits.{largest_capacity, longest_record, most_records};
-ghost use Rattle.hb_look.specs.Looks.{LookMade, after};
-ghost use Rattle.hb_look.specs.Reader.{IsLater, HasCause, ReaderStandsFor};
-ghost use Rattle.hb_session.specs.Replies.{opened, selection_of, has_ended, owed, AreMadeAfter};
-ghost use Rattle.hb_session.specs.Steps.{ReplyState, IsReady};
-ghost use Rattle.hb_session.specs.Sessions.{added, gained, left, ended_by, IsListed, IsNearer, IsWritten, AreFoundAt, IsWhole, SessionStandsFor};
-ghost use Rattle.hb_session.specs.Stands.{ReplyStandsFor};
+ghost use Rattle.hb_look.specs.Limits.{largest_capacity, most_records};
+ghost use Rattle.hb_look.specs.Looks.{added};
+ghost use Rattle.hb_look.specs.Progress.{HasLooked};
+ghost use Rattle.hb_session.specs.Openings.{opened};
+ghost use Rattle.hb_session.specs.Refusals.{Status, refusal};
+ghost use Rattle.hb_session.specs.Stands.{counts_of};
+ghost use Rattle.hb_session.specs.Works.{IsOneLook};
+ghost use Rattle.hb_session.specs.Sessions.{SessionStandsFor, HaveTurned, HasDone, IsNearer, IsAnswerTo, HasMoved, gained, ended_by};
 
-use crate::reply::Reply;
-use crate::{Counts, OpenFault, Selection, Turn};
+use crate::outbox::Outbox;
+use crate::source::{Source, Worked};
+use crate::{Counts, OpenFault, Turn};
 use hb_api::GetFlowsRequest;
 use hb_edge::{Link, Moved};
-use hb_look::{LONGEST_RECORD, Look, Looked, MOST_RECORDS, Record};
+use hb_look::Look;
 use std::alloc::Global;
 use std::marker::Model;
 
 /// One reply of a node to one client.
 #[derive(Drop)]
 pub struct NodeSession {
-    reply: Reply,
-    buffer: Record,
+    source: Source,
+    outbox: Outbox,
     sent: u64,
     moment: u64,
     answer: Option<Turn>,
 }
 
 impl Model for NodeSession {
-    ghost use Rattle.std.specs.Prelude.{◌≡◌, ℕ, ◌+◌, ◌≤◌, Option, None};
-    ghost use Rattle.hb_look.specs.Limits.{largest_capacity, longest_record, most_records};
-    ghost use Rattle.hb_session.specs.Steps.{IsReady};
-    ghost use Rattle.hb_session.specs.Sessions.{Session, IsEnding};
+    ghost use Rattle.std.specs.Prelude.{◌≡◌, ◌≤◌, None};
+    ghost use Rattle.hb_look.specs.Limits.{largest_capacity};
+    ghost use Rattle.hb_session.specs.Sessions.{Session, IsReady, IsEnding};
 
     ghost Value = { Session };
 
     ghost view = { λ s. record {
-      reply = s.reply;
+      source = s.source;
+      waiting = s.outbox;
       sent = s.sent;
       moment = s.moment;
       answer = s.answer;
     } };
 
-    ghost invariant = { λ s. (s.buffer.room ≡ longest_record)
-        × (s.reply.opening.size ≤ largest_capacity)
-        × (s.reply.opening.low + s.reply.opening.size ≤ most_records)
-        × (s.answer ≡ None → IsReady s.reply) × IsEnding s.answer };
+    ghost invariant = { λ s. (s.source.opening.size ≤ largest_capacity)
+        × (s.answer ≡ None → IsReady s.source s.outbox) × IsEnding s.answer };
 }
 
 impl NodeSession {
     /// A session that answers a request, at a ring of this capacity whose reader has seen `top`
     /// records. The reply is about the last `cap` of these, or all.
-    #[tactic(auto, using(crate::proofs::Opened::opened_stands))]
     pub fn open(
         alloc: Global,
         request: &GetFlowsRequest,
@@ -65,28 +64,24 @@ impl NodeSession {
         requires top { top ≤ most_records }
         requires cap { cap ≤ largest_capacity }
         requires name { length name.now ≤ longest_name }
-        ensures opening { IfOk result (λ session. session.reply.opening
-            ≡ opened (selection_of request.now) name.now top cap) }
+        ensures opening { IfOk result (λ session. session.source.opening
+            ≡ opened request.now name.now top cap) }
         ensures stands { IfOk result (λ session. SessionStandsFor session [] []) }
         ensures going { IfOk result (λ session. (session.answer ≡ None) × (session.moment ≡ 0)) }
-        ensures fault { IfErr result (λ fault. fault ≡ OpenFault.NoMemory) }
+        ensures passes { IfOk result (λ _. refusal request.now ≡ None) }
+        ensures refused { IfErr result (λ fault. (fault ≡ OpenFault.NoMemory)
+            ⊎ ((status : Status) × (refusal request.now ≡ Some status)
+            × (fault ≡ OpenFault.BadRequest status.code status.text))) }
     {
-        let selection = Selection {
-            number: request.number,
-            first: request.first,
-            since: request.since,
-            until: request.until,
-        };
         let size = top.min(cap);
-        let Ok(reply) = Reply::new(alloc, selection, name, top - size, size) else {
-            return Err(OpenFault::NoMemory);
-        };
-        let Ok(buffer) = Record::with_room(alloc, LONGEST_RECORD) else {
+        let mut outbox = Outbox::new(alloc);
+        let Ok(source) = Source::open(alloc, request, name, top - size, size, &mut outbox.bytes)
+        else {
             return Err(OpenFault::NoMemory);
         };
         Ok(NodeSession {
-            reply,
-            buffer,
+            source,
+            outbox,
             sent: 0,
             moment: 0,
             answer: None,
@@ -97,92 +92,62 @@ impl NodeSession {
     /// greatest that was told, in nanoseconds since 1970-01-01T00:00:00Z. The cost is that of the
     /// record or of the write, but for the look that ends a reply which is read backwards: it copies
     /// the reply once.
-    #[tactic(auto, using(crate::proofs::Looked::none_added))]
     pub fn turn<R: Look, L: Link>(&mut self, reader: &mut R, link: &mut L, now: u64) -> Turn
-        requires seen { self.old.reply.opening.low + self.old.reply.opening.size
+        requires seen { self.old.source.opening.low + self.old.source.opening.size
             ≤ (R.reader reader.old).finished.count }
+        ensures turned { HaveTurned self.old self.new
+            (added (R.reader reader.old).looks (R.reader reader.new).looks)
+            (gained self.old self.new)
+            × (self.old.source.opening.size ≤ largest_capacity) }
 
-        // What it stands for.
-        ensures stands { (looks : List LookMade) (taken : List ℕ)
-            → SessionStandsFor self.old looks taken → SessionStandsFor self.new
-            (looks ++ added (R.reader reader.old).looks (R.reader reader.new).looks)
-            (taken ++ gained self.old.reply self.new.reply) }
-        ensures told { ForSome (L.held link.old) (λ h. L.held link.new
-            ≡ Some (record h { taken = h.taken ++ gained self.old.reply self.new.reply })) }
-        ensures listed { IsListed (R.reader reader.old).looks (R.reader reader.new).looks
-            self.new.moment }
-        ensures moves { All (λ look. look.position < after look)
-            (added (R.reader reader.old).looks (R.reader reader.new).looks) }
-        ensures one { (0 < length self.old.reply.waiting → reader.new ≡ reader.old)
-            × (self.old.reply.waiting ≡ [] → link.new ≡ link.old) }
-        ensures moment { self.old.answer ≡ None → self.new.moment ≡ max self.old.moment now }
+        // What becomes of the reader and the link: one call on one of them.
+        ensures looked { HasLooked R.reader R.tells R.fixed reader.old reader.new
+            × IsOneLook (R.reader reader.old) (R.reader reader.new) self.new.moment }
+        ensures sent { HasWritten L.shown L.held L.write_after L.fixed link.old link.new
+            (gained self.old self.new) }
+        ensures alone { (0 < length self.old.waiting → reader.new ≡ reader.old)
+            × (self.old.waiting ≡ [] → link.new ≡ link.old) }
+        ensures exact { self.old.answer ≡ None → 0 < length self.old.waiting
+            → ForSome (L.held link.old) (λ _.
+            (IsAnswerTo self.old (L.write_answer link.old self.old.waiting) result
+            × (link.new ≡ L.write_after link.old self.old.waiting))
+            ⊎ ((result ≡ Turn.LinkFault)
+            × Rose (L.shown link.old).refusals (L.shown link.new).refusals)) }
 
         // What it answers, and when.
-        ensures more { self.old.answer ≡ None → result ≡ Turn.More
-            → 0 < length (gained self.old.reply self.new.reply)
-            + length (added (R.reader reader.old).looks (R.reader reader.new).looks) }
+        ensures more { result ≡ Turn.More → IsNearer self.old self.new
+            × HasMoved (record {
+              looks = added (R.reader reader.old).looks (R.reader reader.new).looks;
+              bytes = gained self.old self.new;
+            }) }
         ensures idle { self.old.answer ≡ None → result ≡ Turn.Idle
-            → (0 < length self.old.reply.waiting)
-            × Rose (L.write_waits link.old) (L.write_waits link.new)
-            × (self.new.reply ≡ self.old.reply) }
-        ensures done { (looks : List LookMade) (taken : List ℕ)
-            → SessionStandsFor self.old looks taken → self.old.answer ≡ None
-            → result ≢ Turn.NoMemory → (result ≡ Turn.Done) ↔ IsWhole self.old.reply.opening
-            (looks ++ added (R.reader reader.old).looks (R.reader reader.new).looks)
-            (taken ++ gained self.old.reply self.new.reply) }
+            → (0 < length self.old.waiting) × (self.new.waiting ≡ self.old.waiting)
+            × (self.new.source ≡ self.old.source)
+            × Rose (L.shown link.old).write_waits (L.shown link.new).write_waits }
+        ensures done { HasDone self.old result
+            (added (R.reader reader.old).looks (R.reader reader.new).looks)
+            (gained self.old self.new) }
         ensures link_fault { self.old.answer ≡ None → result ≡ Turn.LinkFault
-            → Rose (L.faults link.old) (L.faults link.new) }
+            → (0 < length self.old.waiting)
+            × Rose (L.shown link.old).faults (L.shown link.new).faults }
         ensures spent { self.old.answer ≡ None → (result ≡ Turn.Spent)
             ↔ ((length (R.reader reader.old).looks ≡ most_records)
-            × (self.old.reply.waiting ≡ [])) }
+            × (self.old.waiting ≡ [])) }
         ensures no_memory { self.old.answer ≡ None → result ≡ Turn.NoMemory
-            → self.old.reply.waiting ≡ [] }
-        ensures ended { self.old.answer ≡ None → self.new.answer ≡ ended_by result }
-        ensures goes_on { (result ≡ Turn.More) ⊎ (result ≡ Turn.Idle) → self.old.answer ≡ None }
-        ensures nearer { result ≡ Turn.More → IsNearer self.old self.new }
-        ensures window { self.new.reply.opening.size ≤ largest_capacity }
-        ensures spends { (length (added (R.reader reader.old).looks (R.reader reader.new).looks)
-            ≤ left self.old)
-            × (result ≢ Turn.NoMemory → left self.new
-            + length (added (R.reader reader.old).looks (R.reader reader.new).looks)
-            ≤ left self.old) }
+            → self.old.waiting ≡ [] }
+        ensures ended { (self.new.answer ≡ ended_by result)
+            × (self.old.answer ≡ None → self.new.moment ≡ max self.old.moment now) }
         ensures repeats { (answer : Turn) → self.old.answer ≡ Some answer → (result ≡ answer)
             × (self.new ≡ self.old) × (reader.new ≡ reader.old) × (link.new ≡ link.old) }
-        ensures opening { self.new.reply.opening ≡ self.old.reply.opening }
-
-        // What becomes of the reader and the link.
-        ensures cause { All (λ look. HasCause (R.capacity reader.old) look.position
-            (R.reader reader.old) (R.reader reader.new) look.found)
-            (added (R.reader reader.old).looks (R.reader reader.new).looks) }
-        ensures later { IsLater (R.reader reader.old) (R.reader reader.new) }
-        ensures found { (log : List (List ℕ)) → R.tells reader.old log
-            → AreFoundAt log (R.capacity reader.old)
-            (R.reader reader.old).looks (R.reader reader.new).looks }
-        ensures told_log { (log : List (List ℕ)) → R.tells reader.old log
-            → ReaderStandsFor log (R.capacity reader.old) (R.reader reader.old)
-            → ReaderStandsFor log (R.capacity reader.old) (R.reader reader.new) }
-        ensures tells { (log : List (List ℕ)) → R.tells reader.old log → R.tells reader.new log }
-        ensures limits { (R.capacity reader.new ≡ R.capacity reader.old)
-            × (R.longest reader.new ≡ R.longest reader.old) }
-        ensures fixed { R.fixed reader.new ≡ R.fixed reader.old }
-        ensures writes { ForSome (L.held link.old) (λ _.
-            IsWritten L.write_after self.old.reply.waiting link.old link.new
-            ⊎ ((result ≡ Turn.LinkFault) × Rose (L.refusals link.old) (L.refusals link.new))) }
-        ensures later_link { (L.faults link.old ≤ L.faults link.new)
-            × (L.read_waits link.old ≤ L.read_waits link.new)
-            × (L.write_waits link.old ≤ L.write_waits link.new)
-            × (L.refusals link.old ≤ L.refusals link.new) }
-        ensures fixed_link { (L.key link.new ≡ L.key link.old)
-            × (L.fixed link.new ≡ L.fixed link.old) }
     {
         if let Some(answer) = self.answer {
             return answer;
         }
         self.moment = self.moment.max(now);
-        if self.reply.waiting().is_empty() {
-            return self.read_on(reader);
+        if self.outbox.waiting().is_empty() {
+            return self.look_on(reader);
         }
-        self.write_on(link)
+        self.send_on(link)
     }
 
     /// How many bytes of the reply the link has taken. The count stops at 2^64 - 1.
@@ -194,202 +159,86 @@ impl NodeSession {
 
     /// How many bytes of the reply wait to be taken.
     pub fn waiting(&self) -> u64
-        ensures value { result ≡ length self.now.reply.waiting }
+        ensures value { result ≡ length self.now.waiting }
     {
-        self.reply.waiting().len() as u64
+        self.outbox.waiting().len() as u64
     }
 
     /// How the window was read so far.
     pub fn counts(&self) -> Counts
-        ensures value { result ≡ self.now.reply.counts }
+        ensures value { result ≡ counts_of self.now.source }
     {
-        self.reply.counts()
+        self.source.counts()
     }
 
-    /// Hands on bytes that wait.
-    #[tactic(auto, using(crate::proofs::Sessions::sent_stands))]
-    fn write_on<L: Link>(&mut self, link: &mut L) -> Turn
-        requires going { (self.old.answer ≡ None) × (0 < length self.old.reply.waiting) }
-        ensures stands { (looks : List LookMade) (taken : List ℕ)
-            → SessionStandsFor self.old looks taken → SessionStandsFor self.new looks
-            (taken ++ gained self.old.reply self.new.reply) }
-        ensures told { ForSome (L.held link.old) (λ h. L.held link.new
-            ≡ Some (record h { taken = h.taken ++ gained self.old.reply self.new.reply })) }
-        ensures leaves { ForSome (L.held link.old) (λ _.
-            (link.new ≡ L.write_after link.old self.old.reply.waiting)
-            ⊎ ((result ≡ Turn.LinkFault) × Rose (L.refusals link.old) (L.refusals link.new))) }
-        ensures later { (L.faults link.old ≤ L.faults link.new)
-            × (L.read_waits link.old ≤ L.read_waits link.new)
-            × (L.write_waits link.old ≤ L.write_waits link.new)
-            × (L.refusals link.old ≤ L.refusals link.new) }
-        ensures fixed_link { (L.key link.new ≡ L.key link.old)
-            × (L.fixed link.new ≡ L.fixed link.old) }
-        ensures more { result ≡ Turn.More → 0 < length (gained self.old.reply self.new.reply) }
-        ensures done { (result ≡ Turn.Done)
-            ↔ ((self.new.reply.ended ≡ true) × (self.new.reply.waiting ≡ [])) }
-        ensures idle { result ≡ Turn.Idle
-            → Rose (L.write_waits link.old) (L.write_waits link.new)
-            × (self.new.reply ≡ self.old.reply) }
-        ensures fault { result ≡ Turn.LinkFault → Rose (L.faults link.old) (L.faults link.new) }
-        ensures answers { (result ≢ Turn.Spent) × (result ≢ Turn.NoMemory) }
-        ensures rest { (self.new.reply ≡ record self.old.reply { waiting = self.new.reply.waiting })
-            × (self.old.reply.waiting
-            ≡ gained self.old.reply self.new.reply ++ self.new.reply.waiting) }
-        ensures ended { self.new.answer ≡ ended_by result }
-        ensures moment { self.new.moment ≡ self.old.moment }
-    {
-        let (answer, count) = send(&mut self.reply, link);
-        self.sent = self.sent.saturating_add(count as u64);
-        self.answer = answer.ending();
-        answer
-    }
-
-    /// Reads on.
-    #[tactic(auto, using(crate::proofs::Sessions::looked_stands))]
-    fn read_on<R: Look>(&mut self, reader: &mut R) -> Turn
-        requires going { (self.old.answer ≡ None) × (self.old.reply.waiting ≡ []) }
-        requires seen { self.old.reply.opening.low + self.old.reply.opening.size
+    /// Makes the next look, and puts what becomes owed by it.
+    fn look_on<R: Look>(&mut self, reader: &mut R) -> Turn
+        requires going { (self.old.answer ≡ None) × (self.old.waiting ≡ []) }
+        requires seen { self.old.source.opening.low + self.old.source.opening.size
             ≤ (R.reader reader.old).finished.count }
-        ensures stands { (looks : List LookMade) (taken : List ℕ)
-            → SessionStandsFor self.old looks taken → SessionStandsFor self.new
-            (looks ++ added (R.reader reader.old).looks (R.reader reader.new).looks)
-            (taken ++ gained self.old.reply self.new.reply) }
-        ensures moves { All (λ look. look.position < after look)
-            (added (R.reader reader.old).looks (R.reader reader.new).looks) }
-        ensures cause { All (λ look. HasCause (R.capacity reader.old) look.position
-            (R.reader reader.old) (R.reader reader.new) look.found)
-            (added (R.reader reader.old).looks (R.reader reader.new).looks) }
-        ensures ready { result ≢ Turn.NoMemory → IsReady self.new.reply }
-        ensures one { result ≡ Turn.More
-            → length (added (R.reader reader.old).looks (R.reader reader.new).looks) ≡ 1 }
-        ensures nearer { result ≡ Turn.More → left self.new < left self.old }
-        ensures spends { (length (added (R.reader reader.old).looks (R.reader reader.new).looks)
-            ≤ left self.old)
-            × (result ≢ Turn.NoMemory → left self.new
-            + length (added (R.reader reader.old).looks (R.reader reader.new).looks)
-            ≤ left self.old) }
+        ensures turned { HaveTurned self.old self.new
+            (added (R.reader reader.old).looks (R.reader reader.new).looks) [] }
+        ensures looked { HasLooked R.reader R.tells R.fixed reader.old reader.new
+            × IsOneLook (R.reader reader.old) (R.reader reader.new) self.old.moment }
+        ensures more { result ≡ Turn.More → IsNearer self.old self.new
+            × (length (added (R.reader reader.old).looks (R.reader reader.new).looks) ≡ 1) }
         ensures spent { (result ≡ Turn.Spent)
             ↔ (length (R.reader reader.old).looks ≡ most_records) }
         ensures answers { (result ≢ Turn.Idle) × (result ≢ Turn.Done) × (result ≢ Turn.LinkFault) }
-        ensures listed { IsListed (R.reader reader.old).looks (R.reader reader.new).looks
-            self.old.moment }
-        ensures later { IsLater (R.reader reader.old) (R.reader reader.new) }
-        ensures found { (log : List (List ℕ)) → R.tells reader.old log
-            → AreFoundAt log (R.capacity reader.old)
-            (R.reader reader.old).looks (R.reader reader.new).looks }
-        ensures told { (log : List (List ℕ)) → R.tells reader.old log
-            → ReaderStandsFor log (R.capacity reader.old) (R.reader reader.old)
-            → ReaderStandsFor log (R.capacity reader.old) (R.reader reader.new) }
-        ensures tells { (log : List (List ℕ)) → R.tells reader.old log → R.tells reader.new log }
-        ensures limits { (R.capacity reader.new ≡ R.capacity reader.old)
-            × (R.longest reader.new ≡ R.longest reader.old) }
-        ensures fixed { R.fixed reader.new ≡ R.fixed reader.old }
-        ensures ended { self.new.answer ≡ ended_by result }
-        ensures opening { self.new.reply.opening ≡ self.old.reply.opening }
-        ensures moment { self.new.moment ≡ self.old.moment }
+        ensures going { result ≢ Turn.NoMemory → self.new.source.ended ≡ true
+            → 0 < length self.new.waiting }
+        ensures ended { (self.new.answer ≡ ended_by result) × (self.new.moment ≡ self.old.moment) }
     {
-        let answer = look(&mut self.reply, &mut self.buffer, reader, self.moment);
+        let worked = self
+            .source
+            .work(reader, self.moment, &mut self.outbox.bytes);
+        let answer = match worked {
+            Worked::More => Turn::More,
+            Worked::Spent => Turn::Spent,
+            Worked::NoMemory => Turn::NoMemory,
+        };
         self.answer = answer.ending();
         answer
     }
-}
 
-/// Hands bytes that wait to the link, in one write, and tells how many were taken.
-#[tactic(auto, using(crate::proofs::Sent::none_gained))]
-fn send<L: Link>(reply: &mut Reply, link: &mut L) -> (Turn, usize)
-    requires waits { 0 < length reply.old.waiting }
-    ensures rest { (reply.new ≡ record reply.old { waiting = reply.new.waiting })
-        × (reply.old.waiting ≡ gained reply.old reply.new ++ reply.new.waiting) }
-    ensures count { result.1 ≡ length (gained reply.old reply.new) }
-    ensures told { ForSome (L.held link.old) (λ h. L.held link.new
-        ≡ Some (record h { taken = h.taken ++ gained reply.old reply.new })) }
-    ensures leaves { ForSome (L.held link.old) (λ _.
-        (link.new ≡ L.write_after link.old reply.old.waiting)
-        ⊎ ((result.0 ≡ Turn.LinkFault) × Rose (L.refusals link.old) (L.refusals link.new))) }
-    ensures later { (L.faults link.old ≤ L.faults link.new)
-        × (L.read_waits link.old ≤ L.read_waits link.new)
-        × (L.write_waits link.old ≤ L.write_waits link.new)
-        × (L.refusals link.old ≤ L.refusals link.new) }
-    ensures fixed_link { (L.key link.new ≡ L.key link.old)
-        × (L.fixed link.new ≡ L.fixed link.old) }
-    ensures more { result.0 ≡ Turn.More → 0 < result.1 }
-    ensures done { (result.0 ≡ Turn.Done)
-        ↔ ((reply.new.ended ≡ true) × (reply.new.waiting ≡ [])) }
-    ensures idle { result.0 ≡ Turn.Idle
-        → Rose (L.write_waits link.old) (L.write_waits link.new) × (reply.new ≡ reply.old) }
-    ensures fault { result.0 ≡ Turn.LinkFault → Rose (L.faults link.old) (L.faults link.new) }
-    ensures answers { (result.0 ≢ Turn.Spent) × (result.0 ≢ Turn.NoMemory) }
-{
-    match link.poll_write(reply.waiting()) {
-        Moved::Took(count) => {
-            reply.took(count);
-            if reply.waiting().is_empty() && reply.has_ended() {
-                return (Turn::Done, count);
+    /// Hands on bytes that wait.
+    fn send_on<L: Link>(&mut self, link: &mut L) -> Turn
+        requires going { (self.old.answer ≡ None) × (0 < length self.old.waiting) }
+        ensures turned { HaveTurned self.old self.new [] (gained self.old self.new) }
+        ensures sent { HasWritten L.shown L.held L.write_after L.fixed link.old link.new
+            (gained self.old self.new) }
+        ensures exact { ForSome (L.held link.old) (λ _.
+            (IsAnswerTo self.old (L.write_answer link.old self.old.waiting) result
+            × (link.new ≡ L.write_after link.old self.old.waiting))
+            ⊎ ((result ≡ Turn.LinkFault)
+            × Rose (L.shown link.old).refusals (L.shown link.new).refusals)) }
+        ensures more { result ≡ Turn.More → IsNearer self.old self.new
+            × (0 < length (gained self.old self.new)) }
+        ensures idle { result ≡ Turn.Idle → (self.new.waiting ≡ self.old.waiting)
+            × Rose (L.shown link.old).write_waits (L.shown link.new).write_waits }
+        ensures done { (result ≡ Turn.Done)
+            ↔ ((self.new.source.ended ≡ true) × (self.new.waiting ≡ [])) }
+        ensures fault { result ≡ Turn.LinkFault
+            → Rose (L.shown link.old).faults (L.shown link.new).faults }
+        ensures answers { (result ≢ Turn.Spent) × (result ≢ Turn.NoMemory) }
+        ensures source { self.new.source ≡ self.old.source }
+        ensures ended { (self.new.answer ≡ ended_by result) × (self.new.moment ≡ self.old.moment) }
+    {
+        let moved = self.outbox.send(link);
+        let answer = match moved {
+            Moved::Took(count) => {
+                self.sent = self.sent.saturating_add(count as u64);
+                if self.source.has_ended() && self.outbox.waiting().is_empty() {
+                    Turn::Done
+                } else {
+                    Turn::More
+                }
             }
-            (Turn::More, count)
-        }
-        Moved::NotYet => (Turn::Idle, 0),
-        Moved::Failed => (Turn::LinkFault, 0),
-        Moved::End => unreachable!(),
-    }
-}
-
-/// Makes the next look, and reads what it found.
-#[tactic(auto, using(crate::proofs::Looked::added_made, crate::proofs::Looked::none_added, crate::proofs::Looked::added_one, crate::proofs::Looked::unmoved_stands))]
-fn look<R: Look>(reply: &mut Reply, buffer: &mut Record, reader: &mut R, moment: u64) -> Turn
-    requires going { (reply.old.ended ≡ false) × (reply.old.passed < reply.old.opening.size)
-        × (reply.old.opening.low + reply.old.opening.size ≤ most_records) }
-    requires seen { reply.old.opening.low + reply.old.opening.size
-        ≤ (R.reader reader.old).finished.count }
-    requires room { buffer.old.room ≡ longest_record }
-    ensures stands { result ≢ Turn.NoMemory → (looks : List LookMade) (taken : List ℕ)
-        → ReplyStandsFor reply.old looks taken → ReplyStandsFor reply.new
-        (looks ++ added (R.reader reader.old).looks (R.reader reader.new).looks) taken }
-    ensures made { (looks : List LookMade) (taken : List ℕ) → ReplyStandsFor reply.old looks taken
-        → AreMadeAfter reply.old.opening looks
-        (added (R.reader reader.old).looks (R.reader reader.new).looks) }
-    ensures moves { All (λ look. look.position < after look)
-        (added (R.reader reader.old).looks (R.reader reader.new).looks) }
-    ensures cause { All (λ look. HasCause (R.capacity reader.old) look.position
-        (R.reader reader.old) (R.reader reader.new) look.found)
-        (added (R.reader reader.old).looks (R.reader reader.new).looks) }
-    ensures ready { result ≡ Turn.More → IsReady reply.new × (reply.old.passed < reply.new.passed)
-        × (reply.new.passed ≤ reply.new.opening.size) }
-    ensures one { result ≡ Turn.More
-        → length (added (R.reader reader.old).looks (R.reader reader.new).looks) ≡ 1 }
-    ensures spent { (result ≡ Turn.Spent) ↔ (length (R.reader reader.old).looks ≡ most_records) }
-    ensures unmoved { result ≡ Turn.Spent → (reply.new ≡ reply.old) × (reader.new ≡ reader.old)
-        × (added (R.reader reader.old).looks (R.reader reader.new).looks ≡ []) }
-    ensures answers { (result ≢ Turn.Idle) × (result ≢ Turn.Done) × (result ≢ Turn.LinkFault) }
-    ensures listed { IsListed (R.reader reader.old).looks (R.reader reader.new).looks moment }
-    ensures later { IsLater (R.reader reader.old) (R.reader reader.new) }
-    ensures found { (log : List (List ℕ)) → R.tells reader.old log
-        → AreFoundAt log (R.capacity reader.old)
-        (R.reader reader.old).looks (R.reader reader.new).looks }
-    ensures told { (log : List (List ℕ)) → R.tells reader.old log
-        → ReaderStandsFor log (R.capacity reader.old) (R.reader reader.old)
-        → ReaderStandsFor log (R.capacity reader.old) (R.reader reader.new) }
-    ensures tells { (log : List (List ℕ)) → R.tells reader.old log → R.tells reader.new log }
-    ensures limits { (R.capacity reader.new ≡ R.capacity reader.old)
-        × (R.longest reader.new ≡ R.longest reader.old) }
-    ensures fixed { R.fixed reader.new ≡ R.fixed reader.old }
-    ensures opening { reply.new.opening ≡ reply.old.opening }
-    ensures room { buffer.new.room ≡ buffer.old.room }
-{
-    if reader.looked() == MOST_RECORDS {
-        return Turn::Spent;
-    }
-    // Its bounds say that each record fits the buffer.
-    let _ = reader.capacity();
-    let place = reply.place();
-    let added = match reader.look(place, moment, buffer) {
-        Looked::Got => reply.read(buffer.bytes()),
-        Looked::Gone(next) => reply.gone(next, moment),
-        Looked::NotYet => unreachable!(),
-        Looked::NoMemory => return Turn::NoMemory,
-    };
-    match added {
-        Ok(()) => Turn::More,
-        Err(_) => Turn::NoMemory,
+            Moved::NotYet => Turn::Idle,
+            Moved::Failed => Turn::LinkFault,
+            Moved::End => unreachable!(),
+        };
+        self.answer = answer.ending();
+        answer
     }
 }

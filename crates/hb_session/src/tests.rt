@@ -88,8 +88,9 @@ const SESSIONS: &str = "
 7 | | last 1 | done in 1 | ok | 0 0 0
 
 # A session that is turned to its end at once.
-3 | 0 1 2 3 4 | all | finish done in 6; finish done in 1 | 2 3 4 ok | 3 0 0
-3 | 0 1 2 3 4 | all | fail 2; finish fault in 4; finish fault in 1; sent 27 | 2 | 2 0 0
+3 | 0 1 2 3 4 | all | finish done; finish done | 2 3 4 ok | 3 0 0
+3 | 0 1 2 3 4 | all | hold; finish another; sent 0; free; finish done | 2 3 4 ok | 3 0 0
+3 | 0 1 2 3 4 | all | fail 2; finish fault; finish fault; sent 27 | 2 | 2 0 0
 
 # A link that takes a byte a write: three looks, three flows of 27 bytes, and the status.
 3 | 0 1 2 3 4 | all | piece 1; done in 89 | 2 3 4 ok | 3 0 0

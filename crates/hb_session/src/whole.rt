@@ -5,7 +5,7 @@ ghost use Rattle.std.specs.List.{AllByRecursion};
 ghost use Rattle.hb_api.specs.Limits.{longest_name};
 ghost use Rattle.hb_flow.specs.declared.event.Event.{Event};
 ghost use Rattle.hb_session.specs.Events.{is_flow};
-ghost use Rattle.hb_session.specs.Replies.{Opening, opened, selection_of};
+ghost use Rattle.hb_session.specs.Openings.{Opening, opened};
 ghost use Rattle.hb_session.specs.Window.{window};
 ghost use Rattle.hb_session.specs.Whole.{IsReply, HasEvents, GivesFirst, GivesLast, passing, frames_of};
 
@@ -33,8 +33,8 @@ pub fn reply_of<R: Look>(
     requires fresh { (R.reader reader.old).looks ≡ [] }
     requires name { length name.now ≤ longest_name }
     ensures ok { IfOk result (λ link. (log : List (List ℕ)) → R.tells reader.old log
-        → IsReply (opened (selection_of request.now) name.now (length log) (R.capacity reader.old))
-        log link.taken) }
+        → IsReply (opened request.now name.now (length log) (R.reader reader.old).capacity)
+        (R.reader reader.old).capacity log link.taken) }
     ensures fixed { R.fixed reader.new ≡ R.fixed reader.old }
 {
     let top = reader.top();
@@ -44,7 +44,7 @@ pub fn reply_of<R: Look>(
     let Ok(mut link) = MemLink::new(alloc, LINK) else {
         return Err(NoMemory);
     };
-    match finish(&mut session, reader, &mut link, MOMENT).0 {
+    match finish(&mut session, reader, &mut link, MOMENT) {
         Turn::Done => Ok(link),
         Turn::NoMemory => Err(NoMemory),
         Turn::LinkFault | Turn::Spent | Turn::Idle | Turn::More => {
@@ -57,40 +57,40 @@ pub fn reply_of<R: Look>(
 
 /// An opening has at most one reply from a log.
 pub fn one_reply()
-    ensures one { (o : Opening) (log : List (List ℕ)) (x y : List ℕ) → IsReply o log x
-        → IsReply o log y → x ≡ y }
+    ensures one { (o : Opening) (cap : ℕ) (log : List (List ℕ)) (x y : List ℕ)
+        → IsReply o cap log x → IsReply o cap log y → x ≡ y }
 {}
 
 /// The reply to a request for all: the frames of the window's events that pass, in their order, and that
 /// of the status.
 pub fn whole_window()
-    ensures window { (o : Opening) (log : List (List ℕ)) (events : List Event) (bytes : List ℕ)
-        → HasEvents o log events → IsReply o log bytes → o.selection.number ≡ 0
+    ensures window { (o : Opening) (cap : ℕ) (log : List (List ℕ)) (events : List Event)
+        (bytes : List ℕ) → HasEvents o log events → IsReply o cap log bytes → o.request.number ≡ 0
         → bytes ≡ frames_of o (passing o events) }
 {}
 
 /// The reply to a request for the first flows: what passes of the window's events up to the first one at
 /// which there are that many flows, or of all of them.
 pub fn first_of_window()
-    ensures first { (o : Opening) (log : List (List ℕ)) (events : List Event) (bytes : List ℕ)
-        → HasEvents o log events → IsReply o log bytes
-        → 0 < o.selection.number → o.selection.first ≡ true → GivesFirst o events bytes }
-    ensures flows_alone { (o : Opening) (log : List (List ℕ)) (events : List Event)
-        (bytes : List ℕ) → HasEvents o log events → IsReply o log bytes
-        → 0 < o.selection.number → o.selection.first ≡ true
+    ensures first { (o : Opening) (cap : ℕ) (log : List (List ℕ)) (events : List Event)
+        (bytes : List ℕ) → HasEvents o log events → IsReply o cap log bytes
+        → 0 < o.request.number → o.request.first ≡ true → GivesFirst o events bytes }
+    ensures flows_alone { (o : Opening) (cap : ℕ) (log : List (List ℕ)) (events : List Event)
+        (bytes : List ℕ) → HasEvents o log events → IsReply o cap log bytes
+        → 0 < o.request.number → o.request.first ≡ true
         → AllByRecursion (λ e. is_flow e ≡ true) events
-        → bytes ≡ frames_of o (take o.selection.number (passing o events)) }
+        → bytes ≡ frames_of o (take o.request.number (passing o events)) }
 {}
 
 /// The reply to a request for the last flows: what passes of the window's events from the last one on
 /// from which there are that many flows, or of all of them.
 pub fn last_of_window()
-    ensures last { (o : Opening) (log : List (List ℕ)) (events : List Event) (bytes : List ℕ)
-        → HasEvents o log events → IsReply o log bytes
-        → 0 < o.selection.number → o.selection.first ≡ false → GivesLast o events bytes }
-    ensures flows_alone { (o : Opening) (log : List (List ℕ)) (events : List Event)
-        (bytes : List ℕ) → HasEvents o log events → IsReply o log bytes
-        → 0 < o.selection.number → o.selection.first ≡ false
+    ensures last { (o : Opening) (cap : ℕ) (log : List (List ℕ)) (events : List Event)
+        (bytes : List ℕ) → HasEvents o log events → IsReply o cap log bytes
+        → 0 < o.request.number → o.request.first ≡ false → GivesLast o events bytes }
+    ensures flows_alone { (o : Opening) (cap : ℕ) (log : List (List ℕ)) (events : List Event)
+        (bytes : List ℕ) → HasEvents o log events → IsReply o cap log bytes
+        → 0 < o.request.number → o.request.first ≡ false
         → AllByRecursion (λ e. is_flow e ≡ true) events
-        → bytes ≡ frames_of o (window o.selection.number (passing o events)) }
+        → bytes ≡ frames_of o (window o.request.number (passing o events)) }
 {}

@@ -1,10 +1,11 @@
 //! The frames of a reply's responses.
-ghost use Rattle.std.specs.Prelude.{◌≡◌, ◌++◌, IfOk, OnOk, OnErr};
-ghost use Rattle.hb_session.specs.Replies.{event_frame, FitsFrame};
+ghost use Rattle.std.specs.Prelude.{◌≡◌, [], ◌∷◌, ◌++◌, IfOk, OnOk, OnErr, if◌then◌else◌};
+ghost use Rattle.hb_frame.specs.Frames.{frame_bytes};
+ghost use Rattle.hb_session.specs.Replies.{event_frame, status_frame, spelled, FitsFrame};
 
 use hb_api::GetFlowsResponse;
 use hb_flow::{Event, ResponseTypes};
-use hb_frame::{MESSAGE, put_frame};
+use hb_frame::{MESSAGE, STATUS, put_frame};
 use hb_wire::{NoMemory, Seq, Text};
 use std::alloc::Global;
 use std::marker::Model;
@@ -46,7 +47,8 @@ impl Writer {
     /// Appends the frame of the response that gives an event.
     pub(crate) fn put(&mut self, event: Event, out: &mut Vec<u8>) -> Result<(), NoMemory>
         requires size { FitsFrame self.old event }
-        ensures ok { OnOk result (out.new.items ≡ out.old.items ++ event_frame self.old event) }
+        ensures ok { OnOk result (out.new.items
+            ≡ out.old.items ++ frame_bytes (event_frame self.old event)) }
         ensures err { OnErr result (out.new.items ≡ out.old.items) }
         ensures name { self.new ≡ self.old }
     {
@@ -67,4 +69,20 @@ impl Writer {
         };
         Ok(())
     }
+}
+
+/// Appends the frame of the status that ends a reply, where it has ended, and hands on whether it has.
+pub(crate) fn put_status(ended: bool, out: &mut Vec<u8>) -> Result<bool, NoMemory>
+    ensures put { OnOk result (out.new.items
+        ≡ out.old.items ++ (if ended then spelled (status_frame ∷ []) else [])) }
+    ensures ended { IfOk result (λ is. is ≡ ended) }
+    ensures err { OnErr result (out.new.items ≡ out.old.items) }
+{
+    if !ended {
+        return Ok(false);
+    }
+    let Ok(()) = put_frame(out, STATUS, b"") else {
+        return Err(NoMemory);
+    };
+    Ok(true)
 }

@@ -1,7 +1,7 @@
 //! A ring, a session of its node and a link, moved by words.
-ghost use Rattle.std.specs.Prelude.{◌+◌, ◌≤◌, IfSome};
+ghost use Rattle.std.specs.Prelude.{◌+◌, ◌≤◌, IfSome, IfOk};
 ghost use Rattle.hb_look.specs.Limits.{IsCapacity};
-ghost use Rattle.hb_listring.specs.Places.{HasSeenAtMost};
+ghost use Rattle.hb_listring.specs.Log.{HasLimits};
 
 use super::words::{parted, request_of, spelled};
 use crate::{Counts, NodeSession, Turn, finish, reply_of};
@@ -30,7 +30,8 @@ fn capacity_of(text: &str) -> Option<u64>
 }
 
 fn put(ring: &mut ListRing, record: &[u8]) -> Result<(), Fail>
-    ensures { ring.old.written ≤ ring.new.written }
+    ensures grows { ring.old.written ≤ ring.new.written }
+    ensures limits { HasLimits ring.old → HasLimits ring.new }
 {
     match ring.put(record) {
         Put::Done => Ok(()),
@@ -40,7 +41,8 @@ fn put(ring: &mut ListRing, record: &[u8]) -> Result<(), Fail>
 
 /// Puts a record so many times.
 fn put_times(ring: &mut ListRing, record: &[u8], times: u8) -> Result<(), Fail>
-    ensures { ring.old.written ≤ ring.new.written }
+    ensures grows { ring.old.written ≤ ring.new.written }
+    ensures limits { HasLimits ring.old → HasLimits ring.new }
 {
     for _ in 0..times {
         put(ring, record)?;
@@ -50,7 +52,8 @@ fn put_times(ring: &mut ListRing, record: &[u8], times: u8) -> Result<(), Fail>
 
 /// Puts the records of these words, in order: of `9*3` three times.
 fn put_all(ring: &mut ListRing, alloc: Global, words: &str) -> Result<(), Fail>
-    ensures { ring.old.written ≤ ring.new.written }
+    ensures grows { ring.old.written ≤ ring.new.written }
+    ensures limits { HasLimits ring.old → HasLimits ring.new }
 {
     for word in words.split_whitespace() {
         let (word, times) = word.split_once('*').unwrap_or((word, "1"));
@@ -60,7 +63,9 @@ fn put_all(ring: &mut ListRing, alloc: Global, words: &str) -> Result<(), Fail>
 }
 
 /// The ring of the first two cells of a case: its capacity, and what was put into it.
-fn ring_of(alloc: Global, row: Row<'_>) -> Result<ListRing, Fail> {
+fn ring_of(alloc: Global, row: Row<'_>) -> Result<ListRing, Fail>
+    ensures { IfOk result HasLimits }
+{
     let capacity = capacity_of(row.cell(0)).ok_or("a capacity")?;
     let mut ring = ListRing::open(alloc, capacity, SLOT)?;
     put_all(&mut ring, alloc, row.cell(1))?;
@@ -90,9 +95,9 @@ pub(crate) struct Node {
     link: MemLink,
     moment: u64,
     answer: Turn,
-    ghost within: { HasSeenAtMost ring.written reader },
-    ghost seen: { session.reply.opening.low + session.reply.opening.size
-        ≤ reader.finished.count },
+    ghost within: { reader.seen ≤ ring.written },
+    ghost limits: { HasLimits ring },
+    ghost seen: { session.source.opening.low + session.source.opening.size ≤ reader.seen },
 }
 
 impl Node {
@@ -129,18 +134,17 @@ impl Node {
         self.answer
     }
 
-    /// Finishes the session. Tells the last answer, and how many turns there were.
-    fn finish(&mut self) -> (Turn, u64) {
+    /// Finishes the session, and tells its answer.
+    fn finish(&mut self) -> Turn {
         let mut eye = ListEye {
             reader: &mut self.reader,
             ring: &self.ring,
         };
-        let (answer, turns) = finish(&mut self.session, &mut eye, &mut self.link, self.moment);
-        self.answer = answer;
-        (answer, turns)
+        self.answer = finish(&mut self.session, &mut eye, &mut self.link, self.moment);
+        self.answer
     }
 
-    /// Turns as long as there is more, and tells the same.
+    /// Turns as long as there is more. Tells the last answer, and how many turns there were.
     fn run(&mut self) -> (Turn, u64) {
         for turns in 1..1_000 {
             match self.turn() {
@@ -214,20 +218,20 @@ impl Node {
 
     /// Turns the session, and tells whether it answers so: `more 2` or `idle 3` in so many turns;
     /// `done` or `fault` after any turns with more, and `done in 6` where they are six with the
-    /// last; `finish done in 6` by the call that turns it to its end.
+    /// last; `finish done` by the call that turns it to its end.
     fn answers(&mut self, step: &str) -> Result<bool, Fail> {
         let (word, value) = parted(step);
         let times = if value.is_empty() { "1" } else { value };
         match word {
             "more" => Ok(self.goes_on(number(times)?)),
             "idle" => Ok(self.waits(number(times)?)),
-            "finish" => {
-                let (answer, turns) = self.finish();
-                is_said(self.alloc, value, answer, turns)
-            }
+            "finish" => Ok(said(self.finish()) == value),
             _ => {
                 let (answer, turns) = self.run();
-                is_said(self.alloc, step, answer, turns)
+                Ok(
+                    said(answer) == step
+                        || format!(in self.alloc; "{} in {turns}", said(answer))?.as_str() == step,
+                )
             }
         }
     }
@@ -270,12 +274,11 @@ impl Node {
     }
 }
 
-/// Whether an answer after so many turns is said so, with or without their number.
-fn is_said(alloc: Global, said: &str, answer: Turn, turns: u64) -> Result<bool, Fail> {
-    let word = match answer {
+/// How steps say an answer.
+fn said(answer: Turn) -> &'static str {
+    match answer {
         Turn::Done => "done",
         Turn::LinkFault => "fault",
         _ => "another",
-    };
-    Ok(said == word || said == format!(in alloc; "{word} in {turns}")?.as_str())
+    }
 }

@@ -1,93 +1,79 @@
-use Rattle.std.proofs.Common.{◌≡◌, ◌≢◌, ℕ, ◌+◌, ◌≤◌, List, [], ◌++◌, length, None, true, false, refl, sym, ap, ◌∙◌, inl, inr, arith, max, subst, ◌<◌}
-use Rattle.std.proofs.lemmas.List.{length-append}
-use Rattle.hb_edge.specs.Causes.{Rose}
-use Rattle.std.proofs.lemmas.List.Elements.{All-weaker}
+use Rattle.std.proofs.Common.{◌≡◌, ◌<◌, ℕ, List, [], ◌++◌, max, None, refl, sym, ap, ◌∙◌, arith, rules}
+use Rattle.hb_edge.proofs.Writes.{written_none, written_more, rose_on}
 use Rattle.hb_look.specs.Looks.{LookMade, after}
-use Rattle.hb_look.specs.Reader.{ReaderStandsFor}
-use Rattle.hb_look.specs.Answers.{IsFoundAt}
-use Rattle.hb_session.specs.declared.turn.Turn.{Turn}
+use Rattle.hb_look.proofs.Added.{all_none, all_both, none_added}
+use Rattle.hb_look.proofs.Progress.{looked_nothing, looked_both}
 use Rattle.hb_session.specs.declared.turn.Turn.TheVariants as turns
-use Rattle.hb_session.specs.Replies.{Opening}
-use Rattle.hb_session.specs.Sessions.{AreFoundAt, Session, HaveTurned, added, gained}
-use Rattle.hb_session.proofs.Turned.{not_turned, turned_more, turning_more, taken_both, rose_on, done_more, which, few_turns, GoesOn, goes, goes_remembering, goes_open, goes_moving, goes_unfailed, later_same, later_both, all_none, all_added, counted_more, writes_more}
-use Rattle.hb_session.proofs.Looked.{none_added}
-use Rattle.hb_session.proofs.Sessions.{no_answer}
+use Rattle.hb_session.specs.Sessions.{Session, gained, ended_by}
+use Rattle.hb_session.proofs.Sessions.{unmoved_turned, no_answer}
+use Rattle.hb_session.proofs.Turned.{IsMadeAt, open_by, turned_more, done_more, which, not_spent, ends_with, went_on, no_fewer, made_by}
 use Rattle.hb_session.proofs.finishing.finish.Goals as goal
 
 pub loop-answer-init : goal.loop-answer-init
 loop-answer-init g c =
     let l0 : List LookMade = (g.R.Look.reader c.args.reader.now).looks in (
       [],
-      not_turned c.args.session.now l0 (g.L.Link.held c.args.link.now) (g.L.Link.write_waits c.args.link.now),
-      later_same (g.R.Look.reader c.args.reader.now),
-      omega arith,
-      omega arith,
+      unmoved_turned _ _ _ _ (none_added l0 l0 refl) refl refl refl refl (λ e. e),
+      written_none g.L.Link.shown g.L.Link.held g.L.Link.write_after g.L.Link.fixed c.args.link.now,
+      looked_nothing g.R.Look.reader g.R.Look.tells g.R.Look.fixed c.args.reader.now,
+      all_none (λ look. (look.moment ≡ max c.args.session.now.moment c.args.now) × (look.position < after look)) l0 l0 refl,
+      λ h held. ([], refl, tt),
       λ e. e,
-      λ log tells. tells,
+      λ answer e. (refl, refl, refl),
       refl,
-      refl,
-      refl,
-      omega arith,
-      refl,
-      refl,
-      λ answer e. (refl, refl, refl, refl),
-      refl,
-      all_none (λ look. look.moment ≡ max c.args.session.now.moment c.args.now) l0,
-      all_none (λ look. look.position < after look) l0,
-      λ log tells. all_none (λ look. IsFoundAt log (g.R.Look.capacity c.args.reader.now) look.position look.found) l0,
-      λ log tells stands. stands,
-      omega (arith, ap length (none_added l0 l0 refl)),
-      λ h held. ([], refl),
     )
 
-pub returns-then-not-goes_on-clause-turned : goal.returns-then-not-goes_on-clause-turned
-returns-then-not-goes_on-clause-turned g c =
+pub returns-then-ne-clause-turned : goal.returns-then-ne-clause-turned
+returns-then-ne-clause-turned g c =
     let inv = c.loop-answer.invariant in
     let told = c.turn-answer.ensures in
-    let old : Session = c.args.session.now in
-    let s : Session = c.loop-answer.session in
-    let new : Session = c.turn-answer.new.self in
-    let l0 : List LookMade = (g.R.Look.reader c.args.reader.now).looks in
-    let l : List LookMade = (g.R.Look.reader c.loop-answer.reader).looks in
-    let m : List LookMade = (g.R.Look.reader c.turn-answer.new.reader).looks in
-    let k : List ℕ = gained s.reply new.reply in
-    let turn : HaveTurned s new l m k = record { opening = told.opening; listed = told.listed.0; spent = told.spends.0; stands = told.stands } in (
+    let k : List ℕ = gained c.loop-answer.session c.turn-answer.new.self in (
       inv.0 ++ k,
-      turned_more old s new l0 l m inv.0 k inv.1.turned turn inv.1.room,
-      taken_both (g.L.Link.held c.args.link.now) (g.L.Link.held c.loop-answer.link) (g.L.Link.held c.turn-answer.new.link) inv.0 k inv.1.told told.told,
-      done_more old s new c.turn-answer.result l0 l m inv.0 k inv.1.turned turn inv.5 told.done,
+      turned_more _ _ _ _ _ _ inv.0 k inv.3.listed told.looked.0.listed
+          (λ answer e. let same = told.repeats answer e in (same.1, ap (λ r. (g.R.Look.reader r).looks) same.2)) inv.1 told.turned.0,
+      written_more _ _ _ _ _ _ _ inv.0 k inv.2 told.sent,
+      done_more _ _ _ _ _ _ inv.0 k inv.3.listed told.looked.0.listed inv.6 inv.1 told.done,
     )
 
-pub returns-then-not-goes_on-clause-ends : goal.returns-then-not-goes_on-clause-ends
-returns-then-not-goes_on-clause-ends g c looks taken stands going few no_faults no_waits =
+pub returns-then-ne-clause-looked : goal.returns-then-ne-clause-looked
+returns-then-ne-clause-looked g c =
     let inv = c.loop-answer.invariant in
     let told = c.turn-answer.ensures in
-    let old : Session = c.args.session.now in
-    let s : Session = c.loop-answer.session in
-    let new : Session = c.turn-answer.new.self in
-    let answer : Turn = c.turn-answer.result in
-    let l0 : List LookMade = (g.R.Look.reader c.args.reader.now).looks in
-    let l : List LookMade = (g.R.Look.reader c.loop-answer.reader).looks in
-    let m : List LookMade = (g.R.Look.reader c.turn-answer.new.reader).looks in
-    let k : List ℕ = gained s.reply new.reply in
-    let turn : HaveTurned s new l m k = record { opening = told.opening; listed = told.listed.0; spent = told.spends.0; stands = told.stands } in
-    let all = turned_more old s new l0 l m inv.0 k inv.1.turned turn inv.1.room in
-    let w0 = g.L.Link.write_waits c.args.link.now in
-    let w = g.L.Link.write_waits c.loop-answer.link in
-    let v = g.L.Link.write_waits c.turn-answer.new.link in
-    let calm : Rose w0 w → ⊥ = λ rose. no_waits (rose_on w0 w0 w v (omega arith) told.later_link.2 rose) in
-    let none : s.answer ≡ None = inv.5 going in
-    let no_more : answer ≢ turns.More = λ e. absurd (let yes : c.goes_on.result ≡ true = c.goes_on.ensures.1 (inl e) in let no : c.goes_on.result ≡ false = c.if-not-goes_on.true in cc) in
-    let no_idle : answer ≢ turns.Idle = λ e. no_waits (rose_on w0 w v v inv.1.waits (omega arith) (told.idle none e).1) in
-    let no_fault : answer ≢ turns.LinkFault = λ e. no_faults
-    (rose_on (g.L.Link.faults c.args.link.now) (g.L.Link.faults c.loop-answer.link) (g.L.Link.faults c.turn-answer.new.link) (g.L.Link.faults c.turn-answer.new.link) inv.3 (omega arith) (told.link_fault none e)) in
-    let longer : length l ≡ length l0 + length (added l0 l) = ap length inv.1.turned.listed ∙ length-append l0 (added l0 l) in
-    let size = ap (λ (o : Opening). o.size) all.opening in
-    let no_spent : answer ≢ turns.Spent = λ e. (omega (arith, ((told.spent none).0 e).0, longer, few, inv.1.room, size, told.window)) in (
-      which answer no_more no_idle no_fault no_spent,
-      few_turns old s new l0 l m (g.L.Link.held c.args.link.now) (g.L.Link.held c.loop-answer.link) w0 w c.loop-answer.turns c.saturating_add-turns.result inv.0 k inv.1 all calm
-          (omega (arith, c.saturating_add-turns.ensures)) looks taken stands,
+    let old : Session = c.args.session.now in (
+      looked_both _ _ _ _ _ _ inv.3 told.looked.0,
+      all_both (IsMadeAt (max old.moment c.args.now)) _ _ _ inv.3.listed told.looked.0.listed inv.4
+          (made_by old c.loop-answer.session c.turn-answer.new.self c.args.now _ _ _ refl told.looked.1.at told.looked.1.moves
+          (λ answer e. ap (λ r. (g.R.Look.reader r).looks) (told.repeats answer e).2) told.ended.1 inv.8),
     )
+
+pub returns-then-ne-clause-ends : goal.returns-then-ne-clause-ends
+returns-then-ne-clause-ends g c going few no_faults no_waits =
+    let inv = c.loop-answer.invariant in
+    let told = c.turn-answer.ensures in
+    let none : c.loop-answer.session.answer ≡ None = inv.6 going in
+    which c.turn-answer.result (search rules)
+    (λ e. no_waits (rose_on _ _ _ _ inv.2.later.write_waits (omega arith) (told.idle none e).3))
+    (λ e. no_faults (rose_on _ _ _ _ inv.2.later.faults (omega arith) (told.link_fault none e).1))
+    (λ e. not_spent _ _ _ _ inv.0 inv.3.listed inv.1 told.turned.1 few ((told.spent none).0 e).0)
+
+pub returns-then-ne-clause-causes : goal.returns-then-ne-clause-causes
+returns-then-ne-clause-causes g c going =
+    let inv = c.loop-answer.invariant in
+    let told = c.turn-answer.ensures in
+    let none : c.loop-answer.session.answer ≡ None = inv.6 going in (
+      λ e. rose_on _ _ _ _ inv.2.later.faults (omega arith) (told.link_fault none e).1,
+      λ e. no_fewer _ _ told.looked.0.listed ((told.spent none).0 e).0,
+      λ e. rose_on _ _ _ _ inv.2.later.write_waits (omega arith) (told.idle none e).3,
+    )
+
+pub returns-then-ne-clause-last : goal.returns-then-ne-clause-last
+returns-then-ne-clause-last g c going h held =
+    let inv = c.loop-answer.invariant in
+    let told = c.turn-answer.ensures in
+    let none : c.loop-answer.session.answer ≡ None = inv.6 going in
+    ends_with _ _ c.loop-answer.session _ _ _ (inv.5 h held) _ _ _ _ inv.2.later.refusals
+    (λ waits. told.exact none waits (record h { taken = h.taken ++ inv.0 }) (inv.2.holds h held)) told.alone.1
+    (λ e. (told.idle none e).0) (λ e. (told.link_fault none e).0)
 
 pub loop-answer-preserved : goal.loop-answer-preserved
 loop-answer-preserved g c =
@@ -96,63 +82,22 @@ loop-answer-preserved g c =
     let old : Session = c.args.session.now in
     let s : Session = c.loop-answer.session in
     let new : Session = c.turn-answer.new.self in
-    let answer : Turn = c.turn-answer.result in
-    let l0 : List LookMade = (g.R.Look.reader c.args.reader.now).looks in
-    let l : List LookMade = (g.R.Look.reader c.loop-answer.reader).looks in
-    let m : List LookMade = (g.R.Look.reader c.turn-answer.new.reader).looks in
-    let k : List ℕ = gained s.reply new.reply in
-    let turn : HaveTurned s new l m k = record { opening = told.opening; listed = told.listed.0; spent = told.spends.0; stands = told.stands } in
-    let w0 = g.L.Link.write_waits c.args.link.now in
-    let w = g.L.Link.write_waits c.loop-answer.link in
-    let v = g.L.Link.write_waits c.turn-answer.new.link in
-    let on : GoesOn answer = goes answer (c.goes_on.ensures.0 c.if-not-goes_on.false) in
-    let none : s.answer ≡ None = told.goes_on on in
-    let moved : (Rose w v → ⊥) → 1 ≤ length k + length (added l m) = goes_moving answer w v (length k + length (added l m)) on (told.more none) (λ e. (told.idle none e).1) in (
+    let k : List ℕ = gained s new in
+    let more : c.turn-answer.result ≡ turns.More = search rules in
+    let none : s.answer ≡ None = open_by s new c.turn-answer.result s.answer refl told.ended.0 more (λ answer e. (told.repeats answer e).1) in (
       inv.0 ++ k,
-      turning_more old s new l0 l m (g.L.Link.held c.args.link.now) (g.L.Link.held c.loop-answer.link) (g.L.Link.held c.turn-answer.new.link) w0 w v c.loop-answer.turns c.saturating_add-turns.result
-          inv.0 k inv.1 turn told.told (told.spends.1 (goes_remembering answer on)) told.later_link.2 (omega (arith, c.saturating_add-turns.ensures)) moved,
-      later_both (g.R.Look.reader c.args.reader.now) (g.R.Look.reader c.loop-answer.reader) (g.R.Look.reader c.turn-answer.new.reader) inv.2 told.later,
-      omega (arith, inv.3, told.later_link.0),
-      omega (arith, c.saturating_add-turns.ensures),
-      λ _. told.ended none ∙ goes_open answer on,
-      λ log tells. told.tells log (inv.6 log tells),
-      told.limits.0 ∙ inv.7,
-      told.limits.1 ∙ inv.8,
-      told.fixed ∙ inv.9,
-      omega (arith, inv.10, told.later_link.3),
-      told.fixed_link.0 ∙ inv.11,
-      told.fixed_link.1 ∙ inv.12,
-      λ ended e. absurd (no_answer (sym none ∙ ap (λ (x : Session). x.answer) (inv.13 ended e).1 ∙ e)),
-      omega (arith, told.moment none, inv.14),
-      all_added (λ look. look.moment ≡ max old.moment c.args.now) l0 l m inv.1.turned.listed turn.listed inv.15
-          (All-weaker (λ look. look.moment ≡ new.moment) (λ look. look.moment ≡ max old.moment c.args.now) (λ look e. e ∙ told.moment none ∙ inv.14) (added l m) told.listed.2),
-      all_added (λ look. look.position < after look) l0 l m inv.1.turned.listed turn.listed inv.16 told.moves,
-      λ log tells. all_added (λ look. IsFoundAt log (g.R.Look.capacity c.args.reader.now) look.position look.found) l0 l m inv.1.turned.listed turn.listed (inv.17 log tells)
-          (subst (λ (cap : ℕ). AreFoundAt log cap l m) inv.7 (told.found log (inv.6 log tells))),
-      λ log tells stands. subst (λ (cap : ℕ). ReaderStandsFor log cap (g.R.Look.reader c.turn-answer.new.reader)) inv.7
-          (told.told_log log (inv.6 log tells)
-          (subst (λ (cap : ℕ). ReaderStandsFor log cap (g.R.Look.reader c.loop-answer.reader)) (sym inv.7) (inv.18 log tells stands))),
-      counted_more l0 l m c.loop-answer.turns c.saturating_add-turns.result inv.1.turned.listed turn.listed told.listed.1 inv.19 c.saturating_add-turns.ensures,
-      λ h held. writes_more g.L.Link.write_after c.args.link.now c.loop-answer.link c.turn-answer.new.link s.reply.waiting (inv.20 h held)
-          (goes_unfailed answer on (told.writes (record h { taken = h.taken ++ inv.0 }) (inv.1.told h held))),
+      turned_more _ _ _ _ _ _ inv.0 k inv.3.listed told.looked.0.listed
+          (λ answer e. let same = told.repeats answer e in (same.1, ap (λ r. (g.R.Look.reader r).looks) same.2)) inv.1 told.turned.0,
+      written_more _ _ _ _ _ _ _ inv.0 k inv.2 told.sent,
+      looked_both _ _ _ _ _ _ inv.3 told.looked.0,
+      all_both (IsMadeAt (max old.moment c.args.now)) _ _ _ inv.3.listed told.looked.0.listed inv.4
+          (made_by old s new c.args.now _ _ _ refl told.looked.1.at told.looked.1.moves
+          (λ answer e. ap (λ r. (g.R.Look.reader r).looks) (told.repeats answer e).2) told.ended.1 inv.8),
+      λ h held. went_on _ _ _ _ c.turn-answer.result more
+          (ends_with _ _ s _ _ _ (inv.5 h held) c.turn-answer.result _ _ _ inv.2.later.refusals
+          (λ waits. told.exact none waits (record h { taken = h.taken ++ inv.0 }) (inv.2.holds h held)) told.alone.1
+          (λ e. (told.idle none e).0) (λ e. (told.link_fault none e).0)),
+      λ _. told.ended.0 ∙ ap ended_by more,
+      λ answer e. absurd (no_answer (sym none ∙ ap (λ (x : Session). x.answer) (inv.7 answer e).0 ∙ e)),
+      omega (arith, told.ended.1 none, inv.8),
     )
-
-pub returns-then-not-goes_on-clause-found : goal.returns-then-not-goes_on-clause-found
-returns-then-not-goes_on-clause-found g c log tells =
-    let inv = c.loop-answer.invariant in
-    let told = c.turn-answer.ensures in
-    let l0 : List LookMade = (g.R.Look.reader c.args.reader.now).looks in
-    let l : List LookMade = (g.R.Look.reader c.loop-answer.reader).looks in
-    let m : List LookMade = (g.R.Look.reader c.turn-answer.new.reader).looks in
-    all_added (λ look. IsFoundAt log (g.R.Look.capacity c.args.reader.now) look.position look.found) l0 l m inv.1.turned.listed told.listed.0 (inv.17 log tells)
-    (subst (λ (cap : ℕ). AreFoundAt log cap l m) inv.7 (told.found log (inv.6 log tells)))
-
-pub returns-then-not-goes_on-clause-link : goal.returns-then-not-goes_on-clause-link
-returns-then-not-goes_on-clause-link g c h held =
-    let inv = c.loop-answer.invariant in
-    let told = c.turn-answer.ensures in
-    let s : Session = c.loop-answer.session in
-    elim (told.writes (record h { taken = h.taken ++ inv.0 }) (inv.1.told h held)) [
-      | inl written ↦ inl (writes_more g.L.Link.write_after c.args.link.now c.loop-answer.link c.turn-answer.new.link s.reply.waiting (inv.20 h held) written)
-      | inr failed ↦ inr (failed.0, rose_on (g.L.Link.refusals c.args.link.now) (g.L.Link.refusals c.loop-answer.link) (g.L.Link.refusals c.turn-answer.new.link) (g.L.Link.refusals c.turn-answer.new.link) inv.10 (omega arith) failed.1)
-    ]

@@ -1,5 +1,5 @@
 use Rattle.std.proofs.Common.{arith}
-use Rattle.hb_session.proofs.Got.{found_got}
+use Rattle.hb_session.proofs.Looks.{found_got}
 use Rattle.hb_session.proofs.laws.window_is_held.Goals as goal
 
 pub returns : goal.returns

@@ -1,4 +1,4 @@
-use Rattle.hb_session.proofs.WholeOnce.{reply_once}
+use Rattle.hb_session.proofs.WholeEvents.{reply_once}
 use Rattle.hb_session.proofs.whole.one_reply.Goals as goal
 
 pub returns : goal.returns

@@ -1,44 +1,49 @@
-use Rattle.std.proofs.Common.{◌≡◌, ◌≢◌, ◌∙◌, ◌++◌, ◌≤◌, ◌^◌, ℕ, List, [], length, Some, ap, subst, arith, rules, refl, max, inl, inr}
+use Rattle.std.proofs.Common.{◌≡◌, ◌≢◌, ◌∙◌, ◌++◌, ◌<◌, ◌≤◌, ◌^◌, ℕ, List, [], length, Some, ap, subst, arith, rules, refl, max, inl, inr}
 use Rattle.std.specs.List.{All}
+use Rattle.std.proofs.lemmas.List.Elements.{All-weaker}
 use Rattle.hb_edge.specs.Link.{Held}
 use Rattle.hb_edge.specs.MemLink.{LinkState}
-use Rattle.hb_look.specs.Answers.{IsFoundAt}
-use Rattle.hb_session.specs.Replies.{Opening, AreMade, opened, selection_of}
-use Rattle.hb_session.specs.Sessions.{added, IsWhole}
+use Rattle.hb_look.specs.Looks.{added, after}
+use Rattle.hb_session.specs.Openings.{Opening, opened}
+use Rattle.hb_session.specs.Replies.{AreMade}
+use Rattle.hb_session.specs.Sessions.{IsWhole}
 use Rattle.hb_session.specs.declared.turn.Turn.TheVariants as Turn
-use Rattle.hb_session.proofs.Got.{is_reply, same_taken}
-use Rattle.hb_session.proofs.Links.{IsFree, free_after, ends_else}
+use Rattle.hb_session.proofs.Looks.{is_reply}
+use Rattle.hb_session.proofs.Links.{IsFree, free_after, ends_else, same_taken}
 use Rattle.hb_session.proofs.whole.reply_of.Goals as goal
 
 pub returns-in-Done-clause-ok : goal.returns-in-Done-clause-ok
 returns-in-Done-clause-ok g c = λ log tells.
     let top : c.top-top.result ≡ length log = c.top-top.ensures.told log tells in
-    let cap = g.R.Look.capacity c.args.reader.now in
-    let capacity : c.capacity.result ≡ cap = search rules in
-    let o : Opening = opened (selection_of c.args.request.now) c.args.name.now (length log) cap in
+    let cap = (g.R.Look.reader c.args.reader.now).capacity in
+    let same : (g.R.Look.reader c.top-top.new.self).capacity ≡ cap = c.top-top.ensures.looked.later.capacity in
+    let capacity : c.capacity.result ≡ cap = c.capacity.ensures.capacity ∙ same in
+    let o : Opening = opened c.args.request.now c.args.name.now (length log) cap in
     let before = (g.R.Look.reader c.top-top.new.self).looks in
     let more = added before (g.R.Look.reader c.finish.new.reader).looks in
     let turned = c.finish.ensures.turned in
+    let looked = c.finish.ensures.looked in
     let session = c.in-Ok.session in
-    let is : session.reply.opening ≡ o =
-    c.in-Ok.ensures.opening ∙ ap (λ (n : ℕ). opened (selection_of c.args.request.now) c.args.name.now n c.capacity.result) top
-    ∙ ap (λ (n : ℕ). opened (selection_of c.args.request.now) c.args.name.now (length log) n) capacity in
-    let made : AreMade session.reply.opening more = subst (λ (x : Opening). AreMade x more) turned.1.opening (turned.1.stands [] [] c.in-Ok.ensures.stands).made in
-    let answered : c.finish.result.0 ≢ Turn.NoMemory = search rules in
-    let whole : IsWhole session.reply.opening more turned.0 = (turned.3 [] [] c.in-Ok.ensures.stands c.in-Ok.ensures.going.0 answered).0 c.in-Done.is in
-    let limit = c.top-top.ensures.limits.0 in
-    let found : All (λ look. IsFoundAt log cap look.position look.found) more =
-    subst (λ (n : ℕ). All (λ look. IsFoundAt log n look.position look.found) more) limit (c.finish.ensures.found log (c.top-top.ensures.tells log tells)) in
-    let start : max session.moment 0 ≡ 0 = ap (λ (n : ℕ). max n 0) c.in-Ok.ensures.going.1 in
+    let moment : ℕ = max session.moment 0 in
+    let is : session.source.opening ≡ o =
+    c.in-Ok.ensures.opening ∙ ap (λ (n : ℕ). opened c.args.request.now c.args.name.now n c.capacity.result) top
+    ∙ ap (λ (n : ℕ). opened c.args.request.now c.args.name.now (length log) n) capacity in
+    let made : AreMade session.source.opening more = subst (λ (x : Opening). AreMade x more) turned.1.opening (turned.1.stands [] [] c.in-Ok.ensures.stands).made in
+    let answered : c.finish.result ≢ Turn.NoMemory = search rules in
+    let whole : IsWhole session.source.opening more turned.0 = (turned.3 [] [] c.in-Ok.ensures.stands c.in-Ok.ensures.going.0 answered).0 c.in-Done.is in
+    let at_ring : All (λ look. look.capacity ≡ cap) more = subst (λ (n : ℕ). All (λ look. look.capacity ≡ n) more) same looked.0.at_ring in
+    let moments : All (λ look. look.moment ≡ moment) more =
+    All-weaker (λ look. (look.moment ≡ moment) × (look.position < after look)) (λ look. look.moment ≡ moment) (λ look both. both.0) more looked.1 in
+    let start : moment ≡ 0 = ap (λ (n : ℕ). max n 0) c.in-Ok.ensures.going.1 in
     let link = c.in-Ok-new.link in
     let new = c.finish.new.link in
     let held : Held → Type 0 = λ h. Some (record { taken = new.taken; unread = new.unread; ended = new.ended }) ≡ Some (record h { taken = h.taken ++ turned.0 }) in
-    let told : held (record { taken = link.taken; unread = link.unread; ended = link.ended }) = turned.2 _ refl in
+    let told : held (record { taken = link.taken; unread = link.unread; ended = link.ended }) = turned.2.holds _ refl in
     let empty : link.taken ≡ [] = ap (λ (s : LinkState). s.taken) c.in-Ok-new.ensures.empty in
     let taken : new.taken ≡ link.taken ++ turned.0 = same_taken _ _ told in
     let sent : new.taken ≡ turned.0 = taken ∙ ap (λ (x : List ℕ). x ++ turned.0) empty in
-    is_reply o session.reply.opening log cap (max session.moment 0) more turned.0 c.finish.new.link.taken is made found c.finish.ensures.moments start whole sent
-    (omega arith) (omega arith)
+    is_reply o session.source.opening log cap moment more c.finish.new.link.taken is made (looked.0.found log (c.top-top.ensures.looked.told log tells)) at_ring moments start
+    whole.0 (sent ∙ whole.1) (omega arith) (omega arith)
 
 pub prove-unreachable-requires : goal.prove-unreachable-requires
 prove-unreachable-requires g c =
@@ -46,8 +51,8 @@ prove-unreachable-requires g c =
     let new = c.finish.new.link in
     let is = c.in-Ok-new.ensures.empty in
     let none : length (g.R.Look.reader c.top-top.new.self).looks ≤ 2 ^ 61 = omega (arith, ap length c.top-top.ensures.looks, ap length c.requires.fresh) in
-    let ends = c.finish.ensures.ends [] [] c.in-Ok.ensures.stands c.in-Ok.ensures.going.0 none in
-    elim (c.finish.ensures.link _ refl) [
+    let ends = c.finish.ensures.ends c.in-Ok.ensures.going.0 none in
+    elim (c.finish.ensures.turned.2.left _ refl) [
       | inl written ↦
           let free : IsFree link = record {
             planned = ap (λ (s : LinkState). s.fails) is;
@@ -57,8 +62,8 @@ prove-unreachable-requires g c =
           } in
           let after : IsFree new = free_after link new written.0 free written.1 in
           let ended = ends (λ rose. omega (arith, rose, free.faults, after.faults)) (λ rose. omega (arith, rose, free.waits, after.waits)) in
-          ends_else c.finish.result.0 ended.0 c.in-LinkFault.is
+          ends_else c.finish.result ended c.in-LinkFault.is
       | inr failed ↦
           let fed : new.refusals ≡ 0 = search rules in
-          omega (arith, failed.1, fed)
+          omega (arith, failed, fed)
     ]

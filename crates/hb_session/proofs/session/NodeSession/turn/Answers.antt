@@ -1,56 +1,29 @@
-use Rattle.std.proofs.Common.{rules, ◌≡◌, ◌≢◌, List, [], ◌++◌, Some, true, refl, sym, ap, subst, ◌∙◌}
-use Rattle.std.proofs.lemmas.List.{append-nil}
+use Rattle.std.proofs.Common.{rules, List, refl}
 use Rattle.hb_look.specs.Looks.{LookMade}
-use Rattle.hb_session.specs.declared.turn.Turn.TheVariants as turns
-use Rattle.hb_session.specs.Steps.{ReplyState}
-use Rattle.hb_session.specs.Sessions.{Session, SessionStandsFor, added, gained}
-use Rattle.hb_session.proofs.Looked.{none_added}
-use Rattle.hb_session.proofs.Sessions.{moved_stands, all_taken, ready_waits, no_memory}
+use Rattle.hb_look.proofs.Added.{none_added}
+use Rattle.hb_session.proofs.Sessions.{unmoved_turned, told_turned, none_waits, none_gained, gained_same, not_done}
 use Rattle.hb_session.proofs.session.NodeSession.turn.Goals as goal
 
--- src/session.rt:118:13
-pub returns-then-is_empty-clause-stands : goal.returns-then-is_empty-clause-stands
-returns-then-is_empty-clause-stands g c looks taken is =
-    let old : Session = c.args.self.now in
-    let all : Session = record { reply = c.self.inside.reply; sent = c.self.inside.sent; moment = c.max-self-inside.result; answer = c.self.inside.answer } in
-    let reply : all.reply ≡ old.reply = search rules in
-    let sent : all.sent ≡ old.sent = search rules in
-    let answer : all.answer ≡ old.answer = search rules in
-    let more : List LookMade = added (g.R.Look.reader c.args.reader.now).looks (g.R.Look.reader c.read_on.new.reader).looks in
-    subst (λ (r : ReplyState). SessionStandsFor c.read_on.new.self (looks ++ more) (taken ++ gained r c.read_on.new.self.reply)) reply
-    (c.read_on.ensures.stands looks taken (moved_stands old all reply sent answer looks taken is))
+pub returns-in-Some-clause-turned : goal.returns-in-Some-clause-turned
+returns-in-Some-clause-turned g c =
+    let looks : List LookMade = (g.R.Look.reader c.args.reader.now).looks in
+    (unmoved_turned _ _ _ _ (none_added looks looks refl) (gained_same c.args.self.now) refl refl refl (λ e. e), search rules)
 
--- src/session.rt:99:5
-pub returns-clause-stands : goal.returns-clause-stands
-returns-clause-stands g c looks taken is =
-    let old : Session = c.args.self.now in
-    let all : Session = record { reply = c.self.inside.reply; sent = c.self.inside.sent; moment = c.max-self-inside.result; answer = c.self.inside.answer } in
-    let reply : all.reply ≡ old.reply = search rules in
-    let sent : all.sent ≡ old.sent = search rules in
-    let answer : all.answer ≡ old.answer = search rules in
-    let list : List LookMade = (g.R.Look.reader c.args.reader.now).looks in
-    let none : looks ++ added list list ≡ looks = ap (λ (ls : List LookMade). looks ++ ls) (none_added list list refl) ∙ append-nil looks in
-    subst (λ (ls : List LookMade). SessionStandsFor c.write_on.new.self ls (taken ++ gained old.reply c.write_on.new.self.reply)) (sym none)
-    (subst (λ (r : ReplyState). SessionStandsFor c.write_on.new.self looks (taken ++ gained r c.write_on.new.self.reply)) reply
-    (c.write_on.ensures.stands looks taken (moved_stands old all reply sent answer looks taken is)))
+pub returns-then-is_empty-clause-turned : goal.returns-then-is_empty-clause-turned
+returns-then-is_empty-clause-turned g c = (
+  told_turned _ _ _ _ _ _ _ c.look_on.ensures.turned refl (none_gained c.args.self.now c.look_on.new.self (none_waits c.args.self.now.waiting (search rules)))
+      (search rules) (search rules) (search rules) (search rules) (search rules),
+  search rules,
+)
 
 pub returns-then-is_empty-clause-done : goal.returns-then-is_empty-clause-done
-returns-then-is_empty-clause-done g c looks taken is going not =
-    let new : Session = c.read_on.new.self in
-    let more : List LookMade = added (g.R.Look.reader c.args.reader.now).looks (g.R.Look.reader c.read_on.new.reader).looks in
-    let old : Session = c.args.self.now in
-    let opening : new.reply.opening ≡ old.reply.opening = search rules in
-    let ready : (new.reply.ended ≡ true) × (new.reply.waiting ≡ []) → ⊥ = λ both. ready_waits new.reply (c.read_on.ensures.ready not) both in
-    let open_is : new.answer ≢ Some turns.NoMemory = λ e. not (no_memory c.read_on.result (sym c.read_on.ensures.ended ∙ e)) in
-    let whole = all_taken new old.reply.opening (looks ++ more) (taken ++ gained old.reply new.reply) opening (returns-then-is_empty-clause-stands g c looks taken is) open_is in
-    (λ done. absurd (c.read_on.ensures.answers.1 done), λ all. absurd (ready (whole.1 all)))
+returns-then-is_empty-clause-done g c =
+    not_done _ _ _ _ _ (returns-then-is_empty-clause-turned g c).0 (search rules) c.look_on.ensures.going (search rules)
 
-pub returns-clause-done : goal.returns-clause-done
-returns-clause-done g c looks taken is going not =
-    let new : Session = c.write_on.new.self in
-    let old : Session = c.args.self.now in
-    let list : List LookMade = (g.R.Look.reader c.args.reader.now).looks in
-    let opening : new.reply.opening ≡ old.reply.opening = search rules in
-    let open_is : new.answer ≢ Some turns.NoMemory = λ e. not (no_memory c.write_on.result (sym c.write_on.ensures.ended ∙ e)) in
-    let whole = all_taken new old.reply.opening (looks ++ added list list) (taken ++ gained old.reply new.reply) opening (returns-clause-stands g c looks taken is) open_is in
-    (λ done. whole.0 (c.write_on.ensures.done.0 done), λ all. c.write_on.ensures.done.1 (whole.1 all))
+pub returns-clause-turned : goal.returns-clause-turned
+returns-clause-turned g c =
+    let looks : List LookMade = (g.R.Look.reader c.args.reader.now).looks in (
+      told_turned _ _ _ _ _ _ _ c.send_on.ensures.turned (none_added looks looks refl) (search rules)
+          (search rules) (search rules) (search rules) (search rules) (search rules),
+      search rules,
+    )
