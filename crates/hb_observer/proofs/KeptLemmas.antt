@@ -1,6 +1,6 @@
 -- What a ring keeps of an event: the event, or what stands for it, whose record is short.
 use Rattle.std.proofs.Common.{◌≡◌, ◌^◌, ◌∙◌, List, ◌∷◌, map, sym, ap, subst, inl, inr, ℕ, zero, suc, ◌+◌, ◌*◌, ◌<◌, ◌≤◌, [], ◌++◌, length, Option, Some, None, refl, arith, length-append}
-use Rattle.std.specs.Prelude.{pos, nat_le}
+use Rattle.std.specs.Prelude.{pos}
 use Rattle.std.specs.Option.{option_map}
 use Rattle.std.proofs.lemmas.Bool.{le-leb, lt-leb, cases_lt}
 use Rattle.std.specs.List.{AllByRecursion}

@@ -1,7 +1,8 @@
 //! Events into a ring.
-ghost use Rattle.std.specs.Prelude.{◌≡◌, ◌≢◌, ◌↔◌, ℕ, ◌+◌, ◌<◌, ◌≤◌, List, [], ◌∷◌, ◌++◌, length, true, IfOk, OnOk};
+ghost use Rattle.std.specs.Prelude.{◌≡◌, ◌≢◌, ◌↔◌, ◌<◌, ◌≤◌, [], ◌∷◌, length, true, IfOk, OnOk};
 ghost use Rattle.hb_flow.specs.Messages.{record_bytes};
 ghost use Rattle.hb_look.specs.Limits.{most_records};
+ghost use Rattle.hb_look.specs.Progress.{HasPut};
 ghost use Rattle.hb_observer.specs.Kept.{kept, log_of};
 ghost use Rattle.hb_observer.specs.Ingest.{IsStored};
 
@@ -34,16 +35,14 @@ pub fn ingest<W: Keep>(
     scratch: &mut Vec<u8>,
 ) -> Ingested
     requires slot { (slot_bytes ≡ W.longest writer.old) × (64 ≤ slot_bytes) }
-    ensures stands { IsStored result → (log : List (List ℕ)) → W.stands_for writer.old log
-        → W.stands_for writer.new (log ++ log_of slot_bytes (event.now ∷ [])) }
+    ensures stored { IsStored result
+        → HasPut W.stands_for W.written W.longest W.fixed writer.old writer.new
+        (log_of slot_bytes (event.now ∷ [])) }
     ensures kept { result ≡ Ingested.Kept → length (record_bytes event.now) ≤ slot_bytes }
     ensures oversize { result ≡ Ingested.Oversize → slot_bytes < length (record_bytes event.now) }
     ensures spent { result ≢ Ingested.NoMemory
         → (result ≡ Ingested.Spent) ↔ (W.written writer.old ≡ most_records) }
-    ensures written { IsStored result → W.written writer.new ≡ W.written writer.old + 1 }
     ensures same { (IsStored result → ⊥) → writer.new ≡ writer.old }
-    ensures limits { W.longest writer.new ≡ W.longest writer.old }
-    ensures fixed { W.fixed writer.new ≡ W.fixed writer.old }
 {
     let is_oversize = match spell(alloc, event, slot_bytes, scratch) {
         Ok(is_oversize) => is_oversize,

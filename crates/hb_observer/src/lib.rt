@@ -1,5 +1,5 @@
 //! A node's side of the observer service: what it makes of the events that it is given. A contract sees a
-//! ring as the log of its records. The theorem is `stands` of `ingest`: over any list of events the log
+//! ring as the log of its records. The theorem is `stored` of `ingest`: over any list of events the log
 //! grows by exactly the records of what is kept of them (`specs/Kept.antt`).
 #![tactic(auto)]
 

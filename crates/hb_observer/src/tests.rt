@@ -1,6 +1,7 @@
 //! Events into a ring, as text.
 ghost use Rattle.std.specs.Prelude.{◌≡◌, ◌≤◌, IfOk};
 ghost use Rattle.hb_look.specs.Limits.{most_records};
+ghost use Rattle.hb_listring.specs.Log.{HasLimits};
 
 use super::*;
 use hb_cases::{bytes, digits, message, number, rows};
@@ -13,6 +14,7 @@ use std::test::*;
 /// An empty ring of capacity 1, 3 or 7.
 fn ring_of(alloc: Global, capacity: u64, slot: usize) -> Result<ListRing, Fail>
     ensures slot { IfOk result (λ ring. (slot ≡ ring.slot) × (64 ≤ slot)) }
+    ensures limits { IfOk result HasLimits }
 {
     if slot % 8 != 0 || slot < 64 || slot > 65_024 {
         return Err("no slot".into());
@@ -33,7 +35,8 @@ fn ingested(
     words: &str,
 ) -> Result<&'static str, Fail>
     requires slot { (slot ≡ ring.old.slot) × (64 ≤ slot) }
-    ensures slot { ring.new.slot ≡ ring.old.slot }
+    ensures limits { (ring.new.capacity ≡ ring.old.capacity)
+        × (ring.new.slot ≡ ring.old.slot) }
 {
     let read = event_of(alloc, message(alloc, words)?.as_slice());
     let event = read.ok().ok_or("a message")?.ok_or("an event")?;
@@ -55,6 +58,7 @@ fn record_at(
     position: u64,
 ) -> Result<Option<Vec<u8>>, Fail>
     requires slot { slot ≡ ring.now.slot }
+    requires limits { HasLimits ring.now }
     requires place { position ≤ most_records }
 {
     let mut reader = ListReader::new(alloc)?;
@@ -141,7 +145,8 @@ fn all_ingested(
     messages: &str,
 ) -> Result<String, Fail>
     requires slot { (slot ≡ ring.old.slot) × (64 ≤ slot) }
-    ensures slot { ring.new.slot ≡ ring.old.slot }
+    ensures limits { (ring.new.capacity ≡ ring.old.capacity)
+        × (ring.new.slot ≡ ring.old.slot) }
 {
     let mut told = String::new(alloc);
     for words in messages.split(';') {
@@ -154,6 +159,7 @@ fn all_ingested(
 /// What a ring has, from position 0 on: its records in hexadecimal, or `gone`.
 fn records_of(alloc: Global, ring: &ListRing, slot: usize) -> Result<String, Fail>
     requires slot { slot ≡ ring.now.slot }
+    requires limits { HasLimits ring.now }
 {
     let mut told = String::new(alloc);
     for position in 0..ring.written() {

@@ -1,10 +1,13 @@
--- A ring that is filled with a recording, response by response.
-use Rattle.std.proofs.Common.{◌≡◌, ◌∙◌, ℕ, List, [], ◌∷◌, ◌++◌, map, sym, ap, subst}
+-- A writer that is given the events of a recording, response by response.
+use Rattle.std.proofs.Common.{◌≡◌, ◌∙◌, ℕ, ◌≤◌, List, [], ◌∷◌, ◌++◌, length, map, Option, Some, None, sym, ap, subst, arith}
+use Rattle.std.specs.List.{cons_option}
 use Rattle.std.proofs.lemmas.List.{map-append}
 use Rattle.std.proofs.lemmas.List.Elements.{filter_map-append}
 use Rattle.hb_flow.specs.Messages.{event_in, record_bytes}
 use Rattle.hb_flow.specs.declared.event.Event.{Event}
 use Rattle.hb_flow.specs.declared.response.GetFlowsResponse.{GetFlowsResponse}
+use Rattle.hb_look.specs.Progress.{HasPut}
+use Rattle.hb_look.proofs.Progress.{put_both}
 use Rattle.hb_observer.specs.Kept.{kept, log_of}
 use Rattle.hb_recording.specs.Recording.{events}
 use Rattle.hb_recording.specs.Reading.{Reading, HasGiven}
@@ -15,22 +18,27 @@ log_more slot rs ss =
     let put : Event → List ℕ = λ e. record_bytes (kept slot e) in
     ap (map put) (filter_map-append event_in rs ss) ∙ map-append put (events rs) (events ss)
 
--- what a reader gave, and the log has what is kept of it
-pub record HasFilled (reading : Reading) (slot : ℕ) (stands : List (List ℕ) → Type 0) : Type 0 where
+-- a response has one event at most
+event_few : (slot : ℕ) (held : Option Event) → length (log_of slot (cons_option held [])) ≤ 1
+event_few slot None = omega arith
+event_few slot (Some e) = omega arith
+
+pub response_few : (slot : ℕ) (r : GetFlowsResponse) → length (log_of slot (events (r ∷ []))) ≤ 1
+response_few slot r = event_few slot (event_in r)
+
+-- what a reader gave, and what is kept of it was put
+pub record HasFilled (reading : Reading) (slot : ℕ) (put : List (List ℕ) → Type 0) : Type 0 where
   pub responses : List GetFlowsResponse
   pub given : HasGiven reading responses
-  pub log : stands (log_of slot (events responses))
-
--- at first nothing
-pub filled_none : (reading : Reading) (slot : ℕ) (stands : List (List ℕ) → Type 0) → HasGiven reading [] → stands [] → HasFilled reading slot stands
-filled_none reading slot stands given empty = record { responses = []; given = given; log = empty }
+  pub log : put (log_of slot (events responses))
 
 -- one response more
-pub filled_more : (old new : Reading) (slot : ℕ) (r : GetFlowsResponse) (before after : List (List ℕ) → Type 0) → (has : HasFilled old slot before)
-    → HasGiven new (has.responses ++ r ∷ [])
-    → ((log : List (List ℕ)) → before log → after (log ++ log_of slot (events (r ∷ [])))) → HasFilled new slot after
-filled_more old new slot r before after has given put = record {
+pub filled_more : {A Fixed : Type 0} (stands_for : A → List (List ℕ) → Type 0) (written longest : A → ℕ) (fixed : A → Fixed) (a b c : A) (old new : Reading) (slot : ℕ) (r : GetFlowsResponse)
+    → (has : HasFilled old slot (HasPut stands_for written longest fixed a b)) → HasGiven new (has.responses ++ r ∷ [])
+    → HasPut stands_for written longest fixed b c (log_of slot (events (r ∷ []))) → HasFilled new slot (HasPut stands_for written longest fixed a c)
+filled_more stands_for written longest fixed a b c old new slot r has given put = record {
   responses = has.responses ++ r ∷ [];
   given = given;
-  log = subst after (sym (log_more slot has.responses (r ∷ []))) (put (log_of slot (events has.responses)) has.log);
+  log = subst (HasPut stands_for written longest fixed a c) (sym (log_more slot has.responses (r ∷ [])))
+      (put_both stands_for written longest fixed a b c (log_of slot (events has.responses)) (log_of slot (events (r ∷ []))) has.log put);
 }

@@ -1,8 +1,9 @@
 //! A recording into a ring.
-ghost use Rattle.std.specs.Prelude.{◌≡◌, ℕ, ◌+◌, ◌<◌, ◌≤◌, List, [], ◌∷◌, ◌++◌, length, IfErr, OnOk};
+ghost use Rattle.std.specs.Prelude.{◌≡◌, ◌<◌, ◌≤◌, List, [], ◌∷◌, length, IfErr, OnOk, OnErr};
 ghost use Rattle.hb_flow.specs.declared.response.GetFlowsResponse.{GetFlowsResponse};
 ghost use Rattle.hb_files.specs.Files.{largest_file};
 ghost use Rattle.hb_look.specs.Limits.{most_records};
+ghost use Rattle.hb_look.specs.Progress.{HasPut};
 ghost use Rattle.hb_observer.specs.Kept.{log_of};
 ghost use Rattle.hb_recording.specs.Recording.{IsRecordingOf, events};
 ghost use Rattle.hubblet.specs.Filling.{IsShownBy};
@@ -26,18 +27,21 @@ pub(crate) fn fill<W: Keep>(
     requires empty { W.stands_for writer.old [] }
     requires slot { (slot_bytes ≡ W.longest writer.old) × (64 ≤ slot_bytes) }
     requires size { length file.now ≤ largest_file }
-    ensures ok { OnOk result ((responses : List GetFlowsResponse)
-        × IsRecordingOf file.now responses
-        × W.stands_for writer.new (log_of slot_bytes (events responses))) }
+    ensures filled { (responses : List GetFlowsResponse)
+        × HasPut W.stands_for W.written W.longest W.fixed writer.old writer.new
+        (log_of slot_bytes (events responses))
+        × OnOk result (IsRecordingOf file.now responses) }
     ensures err { IfErr result (IsShownBy file.now) }
-    ensures fixed { W.fixed writer.new ≡ W.fixed writer.old }
 {
     let mut reader = RecordingReader::new(alloc, file);
+    let Ok(mut response) = GetFlowsResponse::new(alloc) else {
+        return Err(FileFault::NoMemory);
+    };
     let mut scratch = Vec::new(alloc);
     loop {
-        match reader.next() {
-            Next::Response(response) => {
-                if put(alloc, response, writer, slot_bytes, &mut scratch).is_err() {
+        match reader.next(&mut response) {
+            Next::Response => {
+                if put(alloc, &mut response, writer, slot_bytes, &mut scratch).is_err() {
                     return Err(FileFault::NoMemory);
                 }
             }
@@ -48,23 +52,22 @@ pub(crate) fn fill<W: Keep>(
     }
 }
 
-/// Puts what the ring keeps of a response's event into it, where the response has one.
+/// Takes a response's event, where it has one, and puts what the ring keeps of it into the ring.
 fn put<W: Keep>(
     alloc: Global,
-    response: GetFlowsResponse,
+    response: &mut GetFlowsResponse,
     writer: &mut W,
     slot_bytes: usize,
     scratch: &mut Vec<u8>,
 ) -> Result<(), NoMemory>
     requires slot { (slot_bytes ≡ W.longest writer.old) × (64 ≤ slot_bytes) }
     requires room { W.written writer.old < most_records }
-    ensures stands { OnOk result ((log : List (List ℕ)) → W.stands_for writer.old log
-        → W.stands_for writer.new (log ++ log_of slot_bytes (events (response ∷ [])))) }
-    ensures written { W.written writer.new ≤ W.written writer.old + 1 }
-    ensures limits { W.longest writer.new ≡ W.longest writer.old }
-    ensures fixed { W.fixed writer.new ≡ W.fixed writer.old }
+    ensures ok { OnOk result
+        (HasPut W.stands_for W.written W.longest W.fixed writer.old writer.new
+        (log_of slot_bytes (events (response.old ∷ [])))) }
+    ensures err { OnErr result (writer.new ≡ writer.old) }
 {
-    let Some(event) = response.into_event() else {
+    let Some(event) = response.take_event() else {
         return Ok(());
     };
     match ingest(alloc, &event, writer, slot_bytes, scratch) {
