@@ -13,4 +13,5 @@ Has files name file = files name ≡ Some file
 
 -- these are all the bytes of the file, where the shelf tells, and no more than a file may have
 abbrev pub IsWhole : Option Files → List ℕ → List ℕ → Type 0
-IsWhole told name bytes = (length bytes ≤ largest_file) × ForSome told (λ files. Has files name bytes)
+IsWhole told name bytes = (length bytes ≤ largest_file)
+    × ForSome told (λ files. Has files name bytes)

@@ -25,7 +25,8 @@ pub record IsCut (bytes : List ℕ) (frames : List Frame) (rest : List ℕ) : Ty
 
 -- ---- why no whole frame begins bytes
 
--- the bytes are the front of a frame, and more of it has to come; the empty list is the front of each
+-- the bytes are the front of a frame, and more of it has to come; the empty list is the front of
+-- each
 pub record IsCutShort (bytes : List ℕ) : Type 0 where
   pub of : Frame
   pub fits : IsFrame of
@@ -62,4 +63,5 @@ pub record HasLongBody (bytes : List ℕ) (size : ℕ) : Type 0 where
 
 -- there is a cause why no whole frame begins them
 abbrev pub IsStopped : List ℕ → Type 0
-IsStopped bytes = IsUnfinished bytes ⊎ ((kind : ℕ) × HasBadKind bytes kind) ⊎ ((size : ℕ) × HasLongBody bytes size)
+IsStopped bytes = IsUnfinished bytes ⊎ ((kind : ℕ) × HasBadKind bytes kind)
+    ⊎ ((size : ℕ) × HasLongBody bytes size)

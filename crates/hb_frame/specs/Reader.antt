@@ -10,13 +10,14 @@ use Rattle.hb_frame.specs.declared.reader.Next.TheVariants.{Frame, NeedMore, Bad
 
 -- what begins bytes
 abbrev pub Begins : List ℕ → Front → Type 0
-Begins bytes (fronts.Frame kind body after) = StartsFrame bytes (record { kind = kind; body = body.now }) after.now
+Begins bytes (fronts.Frame kind body after) =
+    StartsFrame bytes (record { kind = kind; body = body.now }) after.now
 Begins bytes fronts.NeedMore = IsUnfinished bytes
 Begins bytes (fronts.BadKind kind) = HasBadKind bytes kind
 Begins bytes (fronts.TooLong size) = HasLongBody bytes size
 
--- The bytes that a reader was fed and has not given, their place in all bytes fed, the body of the frame
--- that it gave last, and how many bytes that it gave it still stores.
+-- The bytes that a reader was fed and has not given, their place in all bytes fed, the body of
+-- the frame that it gave last, and how many bytes that it gave it still stores.
 pub record Reader : Type 0 where
   pub held : List ℕ
   pub place : ℕ
@@ -27,8 +28,8 @@ pub record Reader : Type 0 where
 abbrev pub place_of : ℕ → ℕ
 place_of place = min place (2 ^ 64 - 1)
 
--- The reader was fed these bytes, in whatever pieces, and gave these frames: they begin the bytes, and
--- it holds what comes after them.
+-- The reader was fed these bytes, in whatever pieces, and gave these frames: they begin the
+-- bytes, and it holds what comes after them.
 pub record HasRead (reader : Reader) (fed : List ℕ) (given : List WholeFrame) : Type 0 where
   pub starts : StartsFrames fed given reader.held
   pub place : reader.place ≡ place_of (length (flat_map frame_bytes given))
@@ -49,7 +50,8 @@ pub record HasStayed (old new : Reader) : Type 0 where
 
 -- how it goes on once it has answered: the frame that began what it held is given, or nothing is
 abbrev pub GoesOn : Reader → Reader → Next → Type 0
-GoesOn old new (Frame kind at size) = StartsFrame old.held (record { kind = kind; body = new.body }) new.held
+GoesOn old new (Frame kind at size) =
+    StartsFrame old.held (record { kind = kind; body = new.body }) new.held
     × (size ≡ length new.body) × (new.place ≡ place_of (old.place + length (frame kind new.body)))
 GoesOn old new NeedMore = HasStayed old new
 GoesOn old new (BadKind at kind) = HasStayed old new

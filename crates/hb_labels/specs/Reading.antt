@@ -55,7 +55,8 @@ pieces inside (b ∷ text) = if b == 44 && not inside then [] ∷ pieces false t
 -- what is read of each piece, where each can be read
 unfoldable pub each : {A : Type 0} → (List ℕ → Option A) → List (List ℕ) → Option (List A)
 each one [] = Some []
-each one (piece ∷ more) = option_and_then (λ x. option_map (λ xs. x ∷ xs) (each one more)) (one piece)
+each one (piece ∷ more) =
+    option_and_then (λ x. option_map (λ xs. x ∷ xs) (each one more)) (one piece)
 
 -- the value that is the whole text but for spaces around it
 unfoldable pub value_of : List ℕ → Option (List ℕ)

@@ -47,7 +47,8 @@ pub record SpellsMinutes (text : List ℕ) (minutes : ℕ) : Type 0 where
 
 -- the text is a sign and HH:MM
 abbrev pub SpellsSigned : List ℕ → List ℕ → ℕ → Type 0
-SpellsSigned sign text minutes = (rest : List ℕ) × SpellsMinutes rest minutes × (text ≡ sign ++ rest)
+SpellsSigned sign text minutes = (rest : List ℕ) × SpellsMinutes rest minutes
+    × (text ≡ sign ++ rest)
 
 -- how far the local time is ahead of UTC, or behind it
 abbrev pub SpellsOffset : List ℕ → Offset → Type 0

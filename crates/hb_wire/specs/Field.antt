@@ -1,4 +1,5 @@
--- The fields of a message's bytes, in the profile without groups: Protocol Buffers encoding, message structure.
+-- The fields of a message's bytes, in the profile without groups: Protocol Buffers encoding,
+-- message structure.
 use Rattle.std.specs.Prelude.{◌≡◌, ℕ, ◌+◌, ◌*◌, ◌^◌, ◌<◌, ◌≤◌, List, ◌++◌, length, slice_range, ◌-◌}
 use Rattle.std.specs.Int.{w32, w64, from_le_bytes, to_le_bytes}
 use Rattle.std.specs.List.{flat_map}
@@ -29,7 +30,8 @@ wire_type (Fixed32 value) = 5
 abbrev pub SpellsContent : List ℕ → Content → Type 0
 SpellsContent bytes (Varint value) = IsVarint bytes value
 SpellsContent bytes (Fixed64 value) = (length bytes ≡ 8) × (value ≡ from_le_bytes w64 bytes)
-SpellsContent bytes (Body body) = (size : List ℕ) × IsVarint size (length body) × (bytes ≡ size ++ body)
+SpellsContent bytes (Body body) = (size : List ℕ) × IsVarint size (length body)
+    × (bytes ≡ size ++ body)
 SpellsContent bytes (Fixed32 value) = (length bytes ≡ 4) × (value ≡ from_le_bytes w32 bytes)
 
 -- a field's number is from 1 to 2 ^ 29 - 1
@@ -38,7 +40,8 @@ IsNumber number = (1 ≤ number) × (number < 2 ^ 29)
 
 -- these bytes spell the field: a tag, and the content
 abbrev pub SpellsField : List ℕ → Piece → Type 0
-SpellsField bytes piece = IsNumber piece.number × (tag : List ℕ) × (content : List ℕ) × IsVarint tag (8 * piece.number + wire_type piece.content)
+SpellsField bytes piece = IsNumber piece.number × (tag : List ℕ) × (content : List ℕ)
+    × IsVarint tag (8 * piece.number + wire_type piece.content)
     × SpellsContent content piece.content × (bytes ≡ tag ++ content)
 
 -- the one canonical spelling of a content: each varint as short as it can be

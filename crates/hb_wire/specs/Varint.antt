@@ -1,13 +1,16 @@
 -- Base-128 varints of the Protocol Buffers encoding: seven bits a byte, the low ones first.
 use Rattle.std.specs.Prelude.{◌≡◌, ℕ, zero, suc, ◌+◌, ◌*◌, ◌/◌, ◌%◌, ◌^◌, ◌<◌, ◌≤◌, List, [], ◌∷◌, length, nat_lt, slice_index, if◌then◌else◌}
 
--- These bytes spell the number. A byte below 128 is the last; one from 128 on has seven bits, and the bytes after it spell the rest.
+-- These bytes spell the number. A byte below 128 is the last; one from 128 on has seven bits, and
+-- the bytes after it spell the rest.
 abbrev pub Spells : List ℕ → ℕ → Type 0
 Spells [] n = ⊥
 Spells (b ∷ []) n = (b < 128) × (n ≡ b)
-Spells (b ∷ c ∷ bytes) n = (128 ≤ b) × (rest : ℕ) × (n + 128 ≡ b + 128 * rest) × Spells (c ∷ bytes) rest
+Spells (b ∷ c ∷ bytes) n = (128 ≤ b) × (rest : ℕ) × (n + 128 ≡ b + 128 * rest)
+    × Spells (c ∷ bytes) rest
 
--- a varint of this number: at most ten bytes, and the number has 64 bits (so a tenth byte is 0 or 1)
+-- a varint of this number: at most ten bytes, and the number has 64 bits (so a tenth byte is 0 or
+-- 1)
 pub record IsVarint (bytes : List ℕ) (n : ℕ) : Type 0 where
   pub spells : Spells bytes n
   pub short : length bytes ≤ 10

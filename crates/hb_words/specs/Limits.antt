@@ -16,7 +16,8 @@ default_slot = 8192
 abbrev pub default_node : List ℕ
 default_node = codes "localhost"
 
--- the size of a ring, in units of 8 bytes: a slot more than its capacity, each of a unit more than its bytes
+-- the size of a ring, in units of 8 bytes: a slot more than its capacity, each of a unit more
+-- than its bytes
 abbrev pub ring_size : ℕ → ℕ → ℕ
 ring_size capacity slot = (capacity + 1) * (slot / 8 + 1)
 
