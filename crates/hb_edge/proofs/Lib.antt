@@ -1,2 +1,3 @@
 pub mod Stored
-pub mod Writes
+pub mod Moves
+pub mod MemMoves

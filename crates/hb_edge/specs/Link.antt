@@ -1,10 +1,15 @@
 -- What a link answers to a read or a write, and what it holds and shows afterwards.
-use Rattle.std.specs.Prelude.{◌≡◌, ◌⊎◌, ℕ, ◌<◌, ◌≤◌, ◌++◌, Bool, true, false, List, [], length, take, drop, Option, Some}
+use Rattle.std.specs.Prelude.{◌≡◌, ◌⊎◌, ℕ, ◌<◌, ◌≤◌, ◌++◌, Bool, true, false, List, [], take, Option, Some}
 use Rattle.std.specs.List.{fold}
 use Rattle.std.specs.Option.{ForSome}
 use Rattle.hb_edge.specs.Causes.{Rose}
 use Rattle.hb_edge.specs.declared.link.Moved.{Moved}
 use Rattle.hb_edge.specs.declared.link.Moved.TheVariants.{Took, NotYet, End, Failed}
+
+-- a call on a link: a read into a buffer of this length, or a write of this piece
+pub data Call : Type 0 where
+  Read : (room : ℕ) → Call
+  Write : (piece : List ℕ) → Call
 
 -- the bytes that were written to it so far, the bytes that wait to be read, and whether its far
 -- side has ended
@@ -46,33 +51,32 @@ WrittenWithin NotYet size = Unit {0}
 WrittenWithin End size = ⊥
 WrittenWithin Failed size = Unit {0}
 
--- the bytes of a piece that a write took
-abbrev pub taken_of : List ℕ → Moved → List ℕ
-taken_of piece (Took n) = take n piece
-taken_of piece NotYet = []
-taken_of piece End = []
-taken_of piece Failed = []
+-- the bytes of a buffer or of a piece that a call moved: as many as it answered, from the front
+abbrev pub moved_of : List ℕ → Moved → List ℕ
+moved_of bytes (Took n) = take n bytes
+moved_of bytes NotYet = []
+moved_of bytes End = []
+moved_of bytes Failed = []
 
--- a read of a link that held this gave this answer, left the buffer so, and the link holds this
--- afterwards
-abbrev pub ReadsHeld : Held → Moved → List ℕ → Option Held → Type 0
-ReadsHeld h (Took n) buffer after =
-    (n ≤ length h.unread) × (take n buffer ≡ take n h.unread)
-    × (after ≡ Some (record h { unread = drop n h.unread }))
-ReadsHeld h NotYet buffer after = (h.unread ≡ []) × (h.ended ≡ false) × (after ≡ Some h)
-ReadsHeld h End buffer after = (h.unread ≡ []) × (h.ended ≡ true) × (after ≡ Some h)
-ReadsHeld h Failed buffer after = after ≡ Some h
+-- a read that gave no bytes of a link that held this: it holds none, and has not ended; or it has
+abbrev pub IsDry : Held → Moved → Type 0
+IsDry h (Took n) = Unit {0}
+IsDry h NotYet = (h.unread ≡ []) × (h.ended ≡ false)
+IsDry h End = (h.unread ≡ []) × (h.ended ≡ true)
+IsDry h Failed = Unit {0}
 
--- a link is as writes of some pieces, one after another, leave it
-abbrev pub IsWritten : {A : Type 0} → (A → List ℕ → A) → A → A → Type 0
-IsWritten after old new = (pieces : List (List ℕ)) × (new ≡ fold after old pieces)
+-- some calls, one after another, make this of a link
+abbrev pub IsLeft : {A : Type 0} → (A → Call → A) → A → A → Type 0
+IsLeft after old new = (calls : List Call) × (new ≡ fold after old calls)
 
--- What writes, however many, leave of a link that took these bytes of them. One that tells holds
--- the bytes behind those that it held, and is as writes leave it, but where memory was refused.
-pub record HasWritten {A Fixed : Type 0} (shown : A → Shown) (held : A → Option Held)
-    (after : A → List ℕ → A) (fixed : A → Fixed) (old new : A) (bytes : List ℕ) : Type 0 where
+-- What calls, however many, leave of a link that gave these bytes and took those. One that tells
+-- held the bytes that it gave in front of those that still wait, holds the bytes that it took
+-- behind those that it held, and is as calls leave it, but where memory was refused.
+pub record HasMoved {A Fixed : Type 0} (shown : A → Shown) (held : A → Option Held)
+    (after : A → Call → A) (fixed : A → Fixed) (old new : A) (given taken : List ℕ) : Type 0 where
   pub later : IsShownLater (shown old) (shown new)
-  pub holds : ForSome (held old) (λ h. held new ≡ Some (record h { taken = h.taken ++ bytes }))
-  pub left : ForSome (held old) (λ _. IsWritten after old new
+  pub holds : ForSome (held old) (λ h. (unread : List ℕ) × (h.unread ≡ given ++ unread)
+      × (held new ≡ Some (record h { taken = h.taken ++ taken; unread = unread })))
+  pub left : ForSome (held old) (λ _. IsLeft after old new
       ⊎ Rose (shown old).refusals (shown new).refusals)
   pub stays : fixed new ≡ fixed old

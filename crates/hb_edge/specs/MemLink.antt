@@ -2,7 +2,7 @@
 use Rattle.std.specs.Prelude.{◌≡◌, ℕ, ◌≤◌, ◌++◌, Bool, true, false, List, [], ◌∷◌, length, take, drop, min, if◌then◌else◌}
 use Rattle.hb_edge.specs.declared.link.Moved.{Moved}
 use Rattle.hb_edge.specs.declared.link.Moved.TheVariants.{Took, NotYet, End, Failed}
-use Rattle.hb_edge.specs.Link.{Shown, taken_of}
+use Rattle.hb_edge.specs.Link.{Call, Read, Write, Shown, moved_of}
 use Rattle.hb_edge.specs.Plan.{one_more, is_planned}
 
 -- the bytes written to it, those that wait to be read, whether its far side has ended, whether it
@@ -88,8 +88,18 @@ read_after s room = record s {
 -- the link after a write for which memory was not refused
 abbrev pub write_after : LinkState → List ℕ → LinkState
 write_after s piece = record s {
-  taken = s.taken ++ taken_of piece (write_answer s piece);
+  taken = s.taken ++ moved_of piece (write_answer s piece);
   calls = one_more s.calls;
   faults = faults_after (write_answer s piece) s.faults;
   write_waits = waits_after (write_answer s piece) s.write_waits;
 }
+
+-- what a call answers, if no memory is refused
+abbrev pub answer : LinkState → Call → Moved
+answer s (Read room) = read_answer s room
+answer s (Write piece) = write_answer s piece
+
+-- the link after that call
+abbrev pub after : LinkState → Call → LinkState
+after s (Read room) = read_after s room
+after s (Write piece) = write_after s piece

@@ -1,7 +1,7 @@
 //! A link in memory, whose calls fail as planned.
 ghost use Rattle.std.specs.Prelude.{◌≡◌, ◌↔◌, ◌≤◌, ◌<◌, ◌-◌, ◌^◌, ◌++◌, [], length, take, drop, min, IfOk, IsOk, OnOk, OnErr, Some, true, false};
 ghost use Rattle.hb_edge.specs.Link.{ReadWithin};
-ghost use Rattle.hb_edge.specs.MemLink.{ReadsFront, front_answer, shown, read_answer, read_after, write_answer, write_after};
+ghost use Rattle.hb_edge.specs.MemLink.{ReadsFront, front_answer, shown, answer, after};
 
 use crate::{Link, Moved, NoMemory};
 use std::alloc::Global;
@@ -166,13 +166,9 @@ impl Link for MemLink {
 
     ghost shown = { shown };
 
-    ghost read_answer = { read_answer };
+    ghost answer = { answer };
 
-    ghost read_after = { read_after };
-
-    ghost write_answer = { write_answer };
-
-    ghost write_after = { write_after };
+    ghost after = { after };
 
     ghost Fixed = { ℕ × List ℕ × Bool };
 

@@ -1,12 +1,13 @@
 -- each return but the one where memory was refused is as told
 use Rattle.std.proofs.Common.{rules, inl, [], ◌∷◌}
+use Rattle.hb_edge.specs.Link.{Write}
 use Rattle.hb_edge.proofs.mem_link.MemLinkLink.poll_write.Goals as goal
 
 pub returns-then-contains-clause-exact : goal.returns-then-contains-clause-exact
 returns-then-contains-clause-exact c h is = inl (search rules)
 
-pub returns-then-contains-clause-written : goal.returns-then-contains-clause-written
-returns-then-contains-clause-written c = record {
+pub returns-then-contains-clause-moved : goal.returns-then-contains-clause-moved
+returns-then-contains-clause-moved c = record {
   later = record {
     faults = search rules;
     read_waits = search rules;
@@ -15,15 +16,15 @@ returns-then-contains-clause-written c = record {
     key = search rules;
   };
   holds = search rules;
-  left = λ h is. inl (c.args.piece.now ∷ [], search rules);
+  left = λ h is. inl (Write c.args.piece.now ∷ [], search rules);
   stays = search rules;
 }
 
 pub returns-then-self-clause-exact : goal.returns-then-self-clause-exact
 returns-then-self-clause-exact c h is = inl (search rules)
 
-pub returns-then-self-clause-written : goal.returns-then-self-clause-written
-returns-then-self-clause-written c = record {
+pub returns-then-self-clause-moved : goal.returns-then-self-clause-moved
+returns-then-self-clause-moved c = record {
   later = record {
     faults = search rules;
     read_waits = search rules;
@@ -32,15 +33,15 @@ returns-then-self-clause-written c = record {
     key = search rules;
   };
   holds = search rules;
-  left = λ h is. inl (c.args.piece.now ∷ [], search rules);
+  left = λ h is. inl (Write c.args.piece.now ∷ [], search rules);
   stays = search rules;
 }
 
 pub returns-clause-exact : goal.returns-clause-exact
 returns-clause-exact c h is = inl (search rules)
 
-pub returns-clause-written : goal.returns-clause-written
-returns-clause-written c = record {
+pub returns-clause-moved : goal.returns-clause-moved
+returns-clause-moved c = record {
   later = record {
     faults = search rules;
     read_waits = search rules;
@@ -49,6 +50,6 @@ returns-clause-written c = record {
     key = search rules;
   };
   holds = search rules;
-  left = λ h is. inl (c.args.piece.now ∷ [], search rules);
+  left = λ h is. inl (Write c.args.piece.now ∷ [], search rules);
   stays = search rules;
 }
