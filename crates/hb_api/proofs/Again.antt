@@ -1,6 +1,6 @@
 -- What was written is read again.
 use Rattle.std.proofs.Common.{◌≡◌, ℕ, zero, suc, ◌<◌, ◌^◌, Bool, true, false, eqb, List, [], ◌∷◌, ◌++◌, length, map, Option, Some, None, refl, sym, ap, subst, ◌∙◌, arith, length-append, inl, inr}
-use Rattle.std.specs.Option.{option_map}
+use Rattle.std.specs.Option.{option_map, option_to_list}
 use Rattle.std.specs.List.{AllByRecursion}
 use Rattle.std.proofs.lemmas.Bool.{cases_eq, ne_eqb}
 use Rattle.hb_wire.specs.Field.{Content, Varint, Fixed64, Body, Fixed32, Piece, PieceFits, spelling}
@@ -27,33 +27,56 @@ of_bool_fits false = omega arith
 
 -- ---- what is picked from fields that are spelled canonically
 
-abbrev request_fields : ℕ → Option (List ℕ) → Option (List ℕ) → ℕ → List Piece
-request_fields number since until first = number_field 1 number ++ message_field 7 since ++ message_field 8 until ++ number_field 9 first
+-- the numbers of a number's field
+abbrev spelled_number : ℕ → List ℕ
+spelled_number zero = []
+spelled_number (suc n) = suc n ∷ []
 
-record PicksRequest (number : ℕ) (since until : Option (List ℕ)) (first : ℕ) : Type 0 where
-  number_is : last_or 0 (numbers 1 (map canonical (request_fields number since until first))) ≡ number
-  since_is : joined (bodies 7 (map canonical (request_fields number since until first))) ≡ since
-  until_is : joined (bodies 8 (map canonical (request_fields number since until first))) ≡ until
-  first_is : last_or 0 (numbers 9 (map canonical (request_fields number since until first))) ≡ first
-  all_known : unknown request_row (map canonical (request_fields number since until first)) ≡ []
+last_spelled : (n : ℕ) → last_or 0 (spelled_number n) ≡ n
+last_spelled zero = refl
+last_spelled (suc n) = refl
 
-picks_request : (number : ℕ) (since until : Option (List ℕ)) (first : ℕ) → PicksRequest number since until first
-picks_request zero None None zero = record { number_is = refl; since_is = refl; until_is = refl; first_is = refl; all_known = refl }
-picks_request zero None None (suc f) = record { number_is = refl; since_is = refl; until_is = refl; first_is = refl; all_known = refl }
-picks_request zero None (Some u) zero = record { number_is = refl; since_is = refl; until_is = joined_one u; first_is = refl; all_known = refl }
-picks_request zero None (Some u) (suc f) = record { number_is = refl; since_is = refl; until_is = joined_one u; first_is = refl; all_known = refl }
-picks_request zero (Some s) None zero = record { number_is = refl; since_is = joined_one s; until_is = refl; first_is = refl; all_known = refl }
-picks_request zero (Some s) None (suc f) = record { number_is = refl; since_is = joined_one s; until_is = refl; first_is = refl; all_known = refl }
-picks_request zero (Some s) (Some u) zero = record { number_is = refl; since_is = joined_one s; until_is = joined_one u; first_is = refl; all_known = refl }
-picks_request zero (Some s) (Some u) (suc f) = record { number_is = refl; since_is = joined_one s; until_is = joined_one u; first_is = refl; all_known = refl }
-picks_request (suc n) None None zero = record { number_is = refl; since_is = refl; until_is = refl; first_is = refl; all_known = refl }
-picks_request (suc n) None None (suc f) = record { number_is = refl; since_is = refl; until_is = refl; first_is = refl; all_known = refl }
-picks_request (suc n) None (Some u) zero = record { number_is = refl; since_is = refl; until_is = joined_one u; first_is = refl; all_known = refl }
-picks_request (suc n) None (Some u) (suc f) = record { number_is = refl; since_is = refl; until_is = joined_one u; first_is = refl; all_known = refl }
-picks_request (suc n) (Some s) None zero = record { number_is = refl; since_is = joined_one s; until_is = refl; first_is = refl; all_known = refl }
-picks_request (suc n) (Some s) None (suc f) = record { number_is = refl; since_is = joined_one s; until_is = refl; first_is = refl; all_known = refl }
-picks_request (suc n) (Some s) (Some u) zero = record { number_is = refl; since_is = joined_one s; until_is = joined_one u; first_is = refl; all_known = refl }
-picks_request (suc n) (Some s) (Some u) (suc f) = record { number_is = refl; since_is = joined_one s; until_is = joined_one u; first_is = refl; all_known = refl }
+joined_spelled : (body : Option (List ℕ)) → joined (option_to_list body) ≡ body
+joined_spelled None = refl
+joined_spelled (Some body) = joined_one body
+
+-- these fields hold these values, and no others
+record Picks (fields : List Piece) (number follow : ℕ) (since until : Option (List ℕ)) (first : ℕ) : Type 0 where
+  number_is : numbers 1 (map canonical fields) ≡ spelled_number number
+  follow_is : numbers 3 (map canonical fields) ≡ spelled_number follow
+  since_is : bodies 7 (map canonical fields) ≡ option_to_list since
+  until_is : bodies 8 (map canonical fields) ≡ option_to_list until
+  first_is : numbers 9 (map canonical fields) ≡ spelled_number first
+  all_known : unknown request_row (map canonical fields) ≡ []
+
+picks_first : (first : ℕ) → Picks (number_field 9 first) 0 0 None None first
+picks_first zero = record { number_is = refl; follow_is = refl; since_is = refl; until_is = refl; first_is = refl; all_known = refl }
+picks_first (suc f) = record { number_is = refl; follow_is = refl; since_is = refl; until_is = refl; first_is = refl; all_known = refl }
+
+-- with one more field in front
+picks_until : (until : Option (List ℕ)) (first : ℕ) → Picks (message_field 8 until ++ number_field 9 first) 0 0 None until first
+picks_until None first = picks_first first
+picks_until (Some u) first = let p = picks_first first in
+    record { number_is = p.number_is; follow_is = p.follow_is; since_is = p.since_is; until_is = ap (λ bs. u ∷ bs) p.until_is; first_is = p.first_is; all_known = p.all_known }
+
+picks_since : (since until : Option (List ℕ)) (first : ℕ) → Picks (message_field 7 since ++ message_field 8 until ++ number_field 9 first) 0 0 since until first
+picks_since None until first = picks_until until first
+picks_since (Some s) until first = let p = picks_until until first in
+    record { number_is = p.number_is; follow_is = p.follow_is; since_is = ap (λ bs. s ∷ bs) p.since_is; until_is = p.until_is; first_is = p.first_is; all_known = p.all_known }
+
+picks_follow : (follow : ℕ) (since until : Option (List ℕ)) (first : ℕ)
+    → Picks (number_field 3 follow ++ message_field 7 since ++ message_field 8 until ++ number_field 9 first) 0 follow since until first
+picks_follow zero since until first = picks_since since until first
+picks_follow (suc w) since until first = let p = picks_since since until first in
+    record { number_is = p.number_is; follow_is = ap (λ ns. suc w ∷ ns) p.follow_is; since_is = p.since_is; until_is = p.until_is; first_is = p.first_is; all_known = p.all_known }
+
+abbrev request_fields : ℕ → ℕ → Option (List ℕ) → Option (List ℕ) → ℕ → List Piece
+request_fields number follow since until first = number_field 1 number ++ number_field 3 follow ++ message_field 7 since ++ message_field 8 until ++ number_field 9 first
+
+picks_request : (number follow : ℕ) (since until : Option (List ℕ)) (first : ℕ) → Picks (request_fields number follow since until first) number follow since until first
+picks_request zero follow since until first = picks_follow follow since until first
+picks_request (suc n) follow since until first = let p = picks_follow follow since until first in
+    record { number_is = ap (λ ns. suc n ∷ ns) p.number_is; follow_is = p.follow_is; since_is = p.since_is; until_is = p.until_is; first_is = p.first_is; all_known = p.all_known }
 
 -- ---- what is not known is not checked
 
@@ -80,7 +103,7 @@ request_unfaulty (u ∷ us) not = (λ end. request_passes end u.field.number u.f
 -- ---- a request
 
 abbrev fields_of_request : GetFlowsRequest → List Piece
-fields_of_request r = request_fields r.number (option_map stamp_bytes r.since) (option_map stamp_bytes r.until) (of_bool r.first)
+fields_of_request r = request_fields r.number (of_bool r.follow) (option_map stamp_bytes r.since) (option_map stamp_bytes r.until) (of_bool r.first)
 
 -- each field fits
 record FieldsFit (r : GetFlowsRequest) : Type 0 where
@@ -92,20 +115,34 @@ fields_fit : (r : GetFlowsRequest) → RequestFits r → length (request_bytes r
 unfolding request_bytes
 fields_fit r fits short =
     let number = number_field 1 r.number in
+    let follow = number_field 3 (of_bool r.follow) in
     let since = message_field 7 (option_map stamp_bytes r.since) in
     let until = message_field 8 (option_map stamp_bytes r.until) in
     let first = number_field 9 (of_bool r.first) in
-    let near = all_append NearlyFits (number ++ since ++ until) first
-    (all_append NearlyFits (number ++ since) until
-    (all_append NearlyFits number since
+    let near = all_append NearlyFits (number ++ follow ++ since ++ until) first
+    (all_append NearlyFits (number ++ follow ++ since) until
+    (all_append NearlyFits (number ++ follow) since
+    (all_append NearlyFits number follow
     (number_nearly 1 r.number (omega arith) (omega arith) fits.number)
+    (number_nearly 3 (of_bool r.follow) (omega arith) (omega arith) (of_bool_fits r.follow)))
     (message_nearly 7 (option_map stamp_bytes r.since) (omega arith) (omega arith)))
     (message_nearly 8 (option_map stamp_bytes r.until) (omega arith) (omega arith)))
     (number_nearly 9 (of_bool r.first) (omega arith) (omega arith) (of_bool_fits r.first)) in
     let all = fits_within (fields_of_request r) near (omega (arith, short, length-append (spelling (fields_of_request r)) r.unknown)) in
-    let three = all_apart PieceFits (number ++ since ++ until) first all in
-    let two = all_apart PieceFits (number ++ since) until three.0 in
-    record { whole = all; since = (all_apart PieceFits number since two.0).1; until = two.1 }
+    let four = all_apart PieceFits (number ++ follow ++ since ++ until) first all in
+    let three = all_apart PieceFits (number ++ follow ++ since) until four.0 in
+    record { whole = all; since = (all_apart PieceFits (number ++ follow) since three.0).1; until = three.1 }
+
+-- what is read of canonical fields and of others that are not known
+number_again : (number value : ℕ) (fs : List Piece) (us ps : List Part) → ((n : ℕ) → knows request_row (field_of number (Varint n)) ≡ true) → NotKnown request_row us
+    → ps ≡ map canonical fs ++ us → numbers number (map canonical fs) ≡ spelled_number value → last_or 0 (numbers number ps) ≡ value
+number_again number value fs us ps known not are is =
+    ap (λ (qs : List Part). last_or 0 (numbers number qs)) are ∙ ap (last_or 0) (numbers_first request_row number known (map canonical fs) us not ∙ is) ∙ last_spelled value
+
+body_again : (number : ℕ) (body : Option (List ℕ)) (fs : List Piece) (us ps : List Part) → ((b : List ℕ) → knows request_row (field_of number (Body b)) ≡ true) → NotKnown request_row us
+    → ps ≡ map canonical fs ++ us → bodies number (map canonical fs) ≡ option_to_list body → joined (bodies number ps) ≡ body
+body_again number body fs us ps known not are is =
+    ap (λ (qs : List Part). joined (bodies number qs)) are ∙ ap joined (bodies_first request_row number known (map canonical fs) us not ∙ is) ∙ joined_spelled body
 
 pub request_again : (r : GetFlowsRequest) → RequestFits r → length (request_bytes r) < 2 ^ 64 → read_request (request_bytes r) ≡ r
 unfolding read_request request_bytes
@@ -116,38 +153,35 @@ request_again r fits short =
     let fit = fields_fit r fits short in
     let ps = parts (spelling fs ++ r.unknown) in
     let are : ps ≡ map canonical fs ++ us = parts_again request_row fs r.unknown fits.unknown fit.whole in
-    let picks = picks_request r.number (option_map stamp_bytes r.since) (option_map stamp_bytes r.until) (of_bool r.first) in
-    let number : last_or 0 (numbers 1 ps) ≡ r.number =
-    ap (λ (qs : List Part). last_or 0 (numbers 1 qs)) are ∙ ap (last_or 0) (numbers_first request_row 1 (λ value. refl) (map canonical fs) us not) ∙ picks.number_is in
+    let picks = picks_request r.number (of_bool r.follow) (option_map stamp_bytes r.since) (option_map stamp_bytes r.until) (of_bool r.first) in
+    let number : last_or 0 (numbers 1 ps) ≡ r.number = number_again 1 r.number fs us ps (λ n. refl) not are picks.number_is in
+    let follow : is_true (last_or 0 (numbers 3 ps)) ≡ r.follow = ap (λ (n : ℕ). is_true n) (number_again 3 (of_bool r.follow) fs us ps (λ n. refl) not are picks.follow_is) ∙ true_again r.follow in
     let since : option_map read_stamp (joined (bodies 7 ps)) ≡ r.since =
-    ap (λ (qs : List Part). option_map read_stamp (joined (bodies 7 qs))) are
-    ∙ ap (λ (bs : List (List ℕ)). option_map read_stamp (joined bs)) (bodies_first request_row 7 (λ body. refl) (map canonical fs) us not)
-    ∙ ap (option_map read_stamp) picks.since_is ∙ stamp_there 7 r.since fits.since fit.since in
+    ap (option_map read_stamp) (body_again 7 (option_map stamp_bytes r.since) fs us ps (λ b. refl) not are picks.since_is) ∙ stamp_there 7 r.since fits.since fit.since in
     let until : option_map read_stamp (joined (bodies 8 ps)) ≡ r.until =
-    ap (λ (qs : List Part). option_map read_stamp (joined (bodies 8 qs))) are
-    ∙ ap (λ (bs : List (List ℕ)). option_map read_stamp (joined bs)) (bodies_first request_row 8 (λ body. refl) (map canonical fs) us not)
-    ∙ ap (option_map read_stamp) picks.until_is ∙ stamp_there 8 r.until fits.until fit.until in
-    let first : is_true (last_or 0 (numbers 9 ps)) ≡ r.first =
-    ap (λ (qs : List Part). is_true (last_or 0 (numbers 9 qs))) are
-    ∙ ap (λ (ns : List ℕ). is_true (last_or 0 ns)) (numbers_first request_row 9 (λ value. refl) (map canonical fs) us not)
-    ∙ ap (λ (n : ℕ). is_true n) picks.first_is ∙ true_again r.first in
+    ap (option_map read_stamp) (body_again 8 (option_map stamp_bytes r.until) fs us ps (λ b. refl) not are picks.until_is) ∙ stamp_there 8 r.until fits.until fit.until in
+    let first : is_true (last_or 0 (numbers 9 ps)) ≡ r.first = ap (λ (n : ℕ). is_true n) (number_again 9 (of_bool r.first) fs us ps (λ n. refl) not are picks.first_is) ∙ true_again r.first in
     let kept : unknown request_row ps ≡ r.unknown = ap (unknown request_row) are ∙ unknown_last request_row (map canonical fs) us picks.all_known not ∙ sym fits.unknown.whole in
-    same_request (last_or 0 (numbers 1 ps)) (is_true (last_or 0 (numbers 9 ps))) (option_map read_stamp (joined (bodies 7 ps))) (option_map read_stamp (joined (bodies 8 ps)))
-    (unknown request_row ps) r number first since until kept
+    same_request (last_or 0 (numbers 1 ps)) (is_true (last_or 0 (numbers 9 ps))) (is_true (last_or 0 (numbers 3 ps)))
+    (option_map read_stamp (joined (bodies 7 ps))) (option_map read_stamp (joined (bodies 8 ps)))
+    (unknown request_row ps) r number first follow since until kept
 
 pub request_clean : (r : GetFlowsRequest) → RequestFits r → length (request_bytes r) < 2 ^ 64 → request_fault (request_bytes r) ≡ None
 unfolding request_bytes request_check
 request_clean r fits short =
     let fit = fields_fit r fits short in
     let number = number_field 1 r.number in
+    let follow = number_field 3 (of_bool r.follow) in
     let since = message_field 7 (option_map stamp_bytes r.since) in
     let until = message_field 8 (option_map stamp_bytes r.until) in
     let first = number_field 9 (of_bool r.first) in
     no_fault_again request_row (fields_of_request r) r.unknown fits.unknown fit.whole request_check 0
-    (clean_both request_check (number ++ since ++ until) first
-    (clean_both request_check (number ++ since) until
-    (clean_both request_check number since
+    (clean_both request_check (number ++ follow ++ since ++ until) first
+    (clean_both request_check (number ++ follow ++ since) until
+    (clean_both request_check (number ++ follow) since
+    (clean_both request_check number follow
     (clean_numbers request_check 1 r.number)
+    (clean_numbers request_check 3 (of_bool r.follow)))
     (clean_message request_check 7 (option_map stamp_bytes r.since) (stamp_there_clean 7 r.since fits.since fit.since)))
     (clean_message request_check 8 (option_map stamp_bytes r.until) (stamp_there_clean 8 r.until fits.until fit.until)))
     (clean_numbers request_check 9 (of_bool r.first)))

@@ -3,3 +3,4 @@ pub mod ByNumber
 pub mod Fitting
 pub mod Again
 pub mod Least
+pub mod Masks

@@ -8,7 +8,14 @@ use Rattle.hb_api.specs.Requests.{is_true}
 
 -- a GetFlowsRequest with no field
 abbrev pub no_request : GetFlowsRequest
-no_request = record { number = 0; first = false; since = None; until = None; unknown = [] }
+no_request = record {
+  number = 0;
+  first = false;
+  follow = false;
+  since = None;
+  until = None;
+  unknown = [];
+}
 
 -- a GetFlowsRequest with the bytes of a field that is not known
 abbrev pub request_keeping : GetFlowsRequest → List ℕ → GetFlowsRequest
@@ -18,6 +25,7 @@ request_keeping r raw = record r { unknown = r.unknown ++ raw }
 abbrev pub request_with : GetFlowsRequest → List ℕ → ℕ → Content → GetFlowsRequest
 request_with r raw number (Varint value) =
     if number == 1 then record r { number = value }
+    else if number == 3 then record r { follow = is_true value }
     else if number == 9 then record r { first = is_true value }
     else request_keeping r raw
 request_with r raw number (Body body) =

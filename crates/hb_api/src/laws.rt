@@ -1,11 +1,12 @@
 //! The laws of the requests' definitions.
 ghost use Rattle.std.specs.Prelude.{◌≡◌, ◌<◌, ◌≤◌, ◌^◌, ℕ, List, Some, None, length};
 ghost use Rattle.hb_wire.specs.Varint.{AreBytes};
+ghost use Rattle.hb_flow.specs.Fields.{parts};
 ghost use Rattle.hb_flow.specs.AllFaults.{place_of};
 ghost use Rattle.hb_flow.specs.declared.fault.DecodeFault.{DecodeFault};
 ghost use Rattle.hb_api.specs.declared.request.GetFlowsRequest.{GetFlowsRequest};
 ghost use Rattle.hb_api.specs.Faults.{request_fault, HasFault};
-ghost use Rattle.hb_api.specs.Requests.{RequestFits, request_bytes, read_request};
+ghost use Rattle.hb_api.specs.Requests.{RequestFits, request_bytes, read_request, have_mask, is_masked};
 
 /// What is read of bytes that have no fault has a spelling.
 pub fn read_fits()
@@ -20,6 +21,12 @@ pub fn written_is_read()
         → request_fault (request_bytes r) ≡ None }
     ensures reads { (r : GetFlowsRequest) → RequestFits r → length (request_bytes r) < 2 ^ 64
         → read_request (request_bytes r) ≡ r }
+{}
+
+/// A request that was read has a field mask where its bytes have one.
+pub fn mask_is_kept()
+    ensures kept { (bytes : List ℕ) → AreBytes bytes
+        → is_masked (read_request bytes) ≡ have_mask (parts bytes) }
 {}
 
 /// Of all the faults that the bytes of a request have, the one that is told has the least place;

@@ -7,10 +7,11 @@
 
 mod laws;
 mod limits;
+mod mask;
 mod request;
 
 pub use hb_flow::GetFlowsResponse;
-pub use laws::{least_fault, read_fits, written_is_read};
+pub use laws::{least_fault, mask_is_kept, read_fits, written_is_read};
 pub use limits::LONGEST_NAME;
 pub use request::GetFlowsRequest;
 

@@ -4,6 +4,7 @@ ghost use Rattle.hb_api.specs.Faults.{request_check};
 ghost use Rattle.hb_api.specs.Requests.{request_bytes};
 ghost use Rattle.hb_api.specs.Steps.{request_after};
 
+use crate::mask::have_mask;
 use hb_flow::{
     DecodeFault, Message, keep_unknown, merge, merge_stamp, put_number, put_optional, put_unknown,
 };
@@ -11,13 +12,14 @@ use hb_time::Stamp;
 use hb_wire::{Field, NoMemory, Seq};
 use std::alloc::Global;
 
-/// A request for flows: how many, whether these are the first ones and not the last, the moments
-/// between which they are, and the bytes of the fields that are not known, in the order in which they
-/// came.
+/// A request for flows: how many, whether these are the first ones and not the last, whether those
+/// to come are asked for too, the moments between which they are, and the bytes of the fields that
+/// are not known, in the order in which they came.
 #[derive(Debug, Drop)]
 pub struct GetFlowsRequest {
     pub number: u64,
     pub first: bool,
+    pub follow: bool,
     pub since: Option<Stamp>,
     pub until: Option<Stamp>,
     pub unknown: Seq<u8>,
@@ -40,6 +42,7 @@ impl Message for GetFlowsRequest {
     ) -> Result<(), DecodeFault> {
         match field {
             Field::Varint { number: 1, value } => self.number = value,
+            Field::Varint { number: 3, value } => self.follow = value != 0,
             Field::Body { number: 7, body } => {
                 match merge_stamp(alloc, self.since, body, end - body.len()) {
                     Ok(since) => self.since = Some(since),
@@ -58,9 +61,10 @@ impl Message for GetFlowsRequest {
         Ok(())
     }
 
-    #[tactic(auto, using(crate::proofs::Spelling::spelling_four), unfolding(crate::specs::Requests::request_bytes))]
+    #[tactic(auto, using(crate::proofs::Spelling::spelling_five), unfolding(crate::specs::Requests::request_bytes))]
     fn put(&self, out: &mut Vec<u8>) -> Result<(), NoMemory> {
         put_number(out, 1, self.number)?;
+        put_number(out, 3, u64::from(self.follow))?;
         put_optional(out, 7, &self.since)?;
         put_optional(out, 8, &self.until)?;
         put_number(out, 9, u64::from(self.first))?;
@@ -71,7 +75,7 @@ impl Message for GetFlowsRequest {
 impl GetFlowsRequest {
     ghost use Rattle.hb_flow.specs.Faults.{Answers};
     ghost use Rattle.hb_api.specs.Faults.{request_fault};
-    ghost use Rattle.hb_api.specs.Requests.{read_request, RequestFits};
+    ghost use Rattle.hb_api.specs.Requests.{read_request, is_masked, RequestFits};
     ghost use Rattle.hb_api.specs.Steps.{no_request};
 
     /// The request of no field. It takes no memory.
@@ -82,6 +86,7 @@ impl GetFlowsRequest {
         Ok(GetFlowsRequest {
             number: 0,
             first: false,
+            follow: false,
             since: None,
             until: None,
             unknown: Seq::new(alloc)?,
@@ -107,6 +112,14 @@ impl GetFlowsRequest {
         }
     }
 
+    /// Whether it has a field mask: field 10 with a body, which is not read, among the fields that
+    /// are not known. These are gone through once.
+    pub fn is_masked(&self) -> bool
+        ensures value { result ≡ is_masked self.now }
+    {
+        have_mask(self.unknown.as_slice())
+    }
+
     /// A copy in memory of its own.
     pub fn try_clone(&self, alloc: Global) -> Result<GetFlowsRequest, NoMemory>
         ensures ok { IfOk result (λ copy. copy ≡ self.now) }
@@ -116,6 +129,7 @@ impl GetFlowsRequest {
         Ok(GetFlowsRequest {
             number: self.number,
             first: self.first,
+            follow: self.follow,
             since: self.since,
             until: self.until,
             unknown,

@@ -1,6 +1,7 @@
 //! Rows of bytes worked out by hand from the Protocol Buffers encoding guide. What they read as is
-//! told in words: the fields that are there, as in `number=2 first since=1s,2ns unknown=1801`, bytes
-//! in hexadecimal digits; `-` where there is none; or the fault and its place.
+//! told in words: the fields that are there, as in `number=2 first since=1s,2ns unknown=2001`, bytes
+//! in hexadecimal digits, and `masked` where there is a field mask; `-` where there is none; or the
+//! fault and its place.
 
 use super::*;
 use hb_cases::{bytes, digits, number, rows};
@@ -35,8 +36,14 @@ fn request_words(alloc: Global, request: &GetFlowsRequest) -> Result<String, Fai
     if request.first {
         put(&mut out, "first")?;
     }
+    if request.follow {
+        put(&mut out, "follow")?;
+    }
     put_time(alloc, &mut out, "since", request.since)?;
     put_time(alloc, &mut out, "until", request.until)?;
+    if request.is_masked() {
+        put(&mut out, "masked")?;
+    }
     if !unknown.is_empty() {
         let unknown = digits(alloc, unknown)?;
         put(&mut out, &format!(in alloc; "unknown={unknown}")?)?;
@@ -117,9 +124,10 @@ fn a_request_of_no_field(rt: HostRuntime) -> Result<(), Fail> {
 const READ: &str = "
     - | -
     0802 4801 | number=2 first
-    0802 3a04 0801 1002 4202 0803 4801 1801 | number=2 first since=1s,2ns until=3s,0ns unknown=1801
+    1801 | follow
+    0802 1801 3a04 0801 1002 4202 0803 4801 2001 | number=2 first follow since=1s,2ns until=3s,0ns unknown=2001
     # The same, turned.
-    1801 4801 4202 0803 3a04 1002 0801 0802 | number=2 first since=1s,2ns until=3s,0ns unknown=1801
+    2001 4801 4202 0803 3a04 1002 0801 1801 0802 | number=2 first follow since=1s,2ns until=3s,0ns unknown=2001
     # There, and empty.
     3a00 | since=0s,0ns
     4200 | until=0s,0ns
@@ -127,6 +135,8 @@ const READ: &str = "
     0801 0805 | number=5
     0805 0800 | -
     4801 4800 | -
+    1801 1800 | -
+    1800 1801 | follow
     # Moments in two fields are one, whatever stands between.
     3a02 0801 3a02 1002 | since=1s,2ns
     4204 0801 1002 4202 0803 | until=3s,2ns
@@ -140,21 +150,42 @@ const READ: &str = "
     4802 | first
     48 8002 | first
     48 80*9 01 | first
+    1800 | -
+    1802 | follow
+    18 8002 | follow
     # Longer than needed: a tag and a number, a tag and a length.
     8800 828000 | number=2
     ba00 8200 0801 | since=1s,0ns
-    # Follow, a blacklist and a whitelist, whose bodies are not looked at.
-    1801 | unknown=1801
-    1801 0802 2a00 3201 0b | number=2 unknown=18012a0032010b
+    9800 8100 | follow
+    # A blacklist and a whitelist, whose bodies are not looked at.
+    2a00 0802 3201 0b | number=2 unknown=2a0032010b
+    # A field mask, empty or not, which is not looked at.
+    5200 | masked unknown=5200
+    5203 0a01 61 | masked unknown=52030a0161
+    5202 0b0c | masked unknown=52020b0c
+    d200 8000 | masked unknown=d2008000
+    # Behind other fields, and before one.
+    2001 5200 | masked unknown=20015200
+    3200 0802 5200 2001 | number=2 masked unknown=320052002001
+    # Field 10 with another wire type, and in the body of another field.
+    5000 | unknown=5000
+    5001 | unknown=5001
+    51 5200520052005200 | unknown=515200520052005200
+    55 52005200 | unknown=5552005200
+    3202 5200 | unknown=32025200
+    3a02 5200 | since=0s,0ns
     # Known numbers, with a wire type that is not theirs.
     0a01 05 | unknown=0a0105
     09 0100000000000000 | unknown=090100000000000000
     3807 | unknown=3807
     4007 | unknown=4007
+    19 0100000000000000 | unknown=190100000000000000
+    1a01 01 | unknown=1a0101
+    1d 01000000 | unknown=1d01000000
     4a01 01 | unknown=4a0101
     4d 01000000 | unknown=4d01000000
     # As it was spelled.
-    9800 8100 | unknown=98008100
+    a000 8100 | unknown=a0008100
     # A moment drops what it does not know.
     3a04 1807 0801 | since=1s,0ns
 ";
@@ -169,6 +200,7 @@ const FAULTS: &str = "
     0802 0001 | malformed 2
     # A length past the end.
     4801 3a02 08 | malformed 2
+    4801 5202 08 | malformed 2
     # In the body of since, and in that of until.
     0802 3a03 1001 0b | malformed 6
     4204 0801 1080 | malformed 4
@@ -198,12 +230,12 @@ const CUTS: &str = "
     13 | 13 | malformed 12
     14 | 14 | number=2 first since=1s,2ns until=3s,0ns
     15 | 15 | malformed 14
-    16 | 16 | number=2 first since=1s,2ns until=3s,0ns unknown=1801
+    16 | 16 | number=2 first since=1s,2ns until=3s,0ns masked unknown=5200
 ";
 
 #[test]
 fn every_cut_of_one_request(rt: HostRuntime) -> Result<(), Fail> {
-    let whole = bytes(rt.alloc(), "0802 3a04 0801 1002 4202 0803 4801 1801")?;
+    let whole = bytes(rt.alloc(), "0802 3a04 0801 1002 4202 0803 4801 5200")?;
     for row in rows(rt.alloc(), CUTS)? {
         for size in number::<usize>(row.cell(0))?..=number(row.cell(1))? {
             let cut = whole.get(..size).ok_or("a front")?;
@@ -219,9 +251,10 @@ const CANONICAL: &str = "
     0802 4801 | number=2 first
     08 ff*9 01 | number=18446744073709551615
     4801 | first
+    1801 | follow
     3a00 4200 | since=0s,0ns until=0s,0ns
     4216 08 ff*9 01 10 ff*9 01 | until=-1s,-1ns
-    0802 3a04 0801 1002 4202 0803 4801 1801 | number=2 first since=1s,2ns until=3s,0ns unknown=1801
+    0802 1801 3a04 0801 1002 4202 0803 4801 2001 5200 | number=2 first follow since=1s,2ns until=3s,0ns masked unknown=20015200
 ";
 
 #[test]
@@ -249,9 +282,14 @@ fn a_copy_is_the_same_request(rt: HostRuntime) -> Result<(), Fail> {
 const ANEW: &str = "
     # True is 1, and false is not written.
     4802 | 4801 | first
+    1802 | 1801 | follow
     0805 4801 4800 | 0805 | number=5
+    1801 1800 | - | -
+    # By ascending number.
+    4801 3a00 1801 0802 | 0802 1801 3a00 4801 | number=2 first follow since=0s,0ns
     # What is not known comes last, in its order and spelling.
-    1801 4200 3201 0b 3a00 9800 00 | 3a00 4200 1801 3201 0b 9800 00 | since=0s,0ns until=0s,0ns unknown=180132010b980000
+    2001 4200 3201 0b 3a00 a000 00 | 3a00 4200 2001 3201 0b a000 00 | since=0s,0ns until=0s,0ns unknown=200132010ba00000
+    5200 1801 0802 | 0802 1801 5200 | number=2 follow masked unknown=5200
     # A known number with another wire type is not put in its place.
     3807 4801 | 4801 3807 | first unknown=3807
     # In two fields.
@@ -268,4 +306,33 @@ fn what_was_written_is_read_again(rt: HostRuntime) -> Result<(), Fail> {
     all_written(&rt, rt.alloc(), ANEW, 1, 1)?;
     all_read(&rt, rt.alloc(), ANEW, 0, 2)?;
     all_read(&rt, rt.alloc(), ANEW, 1, 2)
+}
+
+/// Bytes that are kept, which need not divide into fields, and what a request with them reads as.
+const KEPT: &str = "
+    5200 0b | masked unknown=52000b
+    5200 52 | masked unknown=520052
+    2001 5200 80 | masked unknown=2001520080
+    0b 5200 | unknown=0b5200
+    0002 5200 | unknown=00025200
+    52 | unknown=52
+    5201 | unknown=5201
+    2001 5202 01 | unknown=2001520201
+    50 8052 00 | unknown=50805200
+    20 80*10 5200 | unknown=20808080808080808080805200
+";
+
+#[test]
+fn a_mask_is_found_up_to_what_is_no_field(rt: HostRuntime) -> Result<(), Fail> {
+    for row in rows(rt.alloc(), KEPT)? {
+        let mut request = GetFlowsRequest::new(rt.alloc())?;
+        let kept = bytes(rt.alloc(), row.cell(0))?;
+        request.unknown.extend_from_slice(&kept)?;
+        assert_eq!(rt;
+            request_words(rt.alloc(), &request)?.as_str(),
+            row.cell(1),
+            "{row}"
+        );
+    }
+    Ok(())
 }

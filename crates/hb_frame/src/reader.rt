@@ -121,6 +121,13 @@ impl FrameReader {
         self.held().is_empty()
     }
 
+    /// The place in all bytes fed of the first byte that it has not given. It stops at 2^64 - 1.
+    pub fn place(&self) -> u64
+        ensures place { result ≡ self.now.place }
+    {
+        self.place
+    }
+
     /// The bytes that it was fed and has not given.
     fn held(&self) -> &[u8]
         ensures { result.now ≡ self.now.held }

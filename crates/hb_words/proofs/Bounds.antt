@@ -1,6 +1,6 @@
 -- The limits of a job.
 use Rattle.std.proofs.Common.{◌≡◌, ℕ, ◌≤◌, ◌+◌, ◌%◌, List, [], ◌∷◌, length, Option, Some, None, Bool, true, false, ◌&&◌, ◌==◌, arith, refl, sym, codes, subst}
-use Rattle.std.specs.Prelude.{if◌then◌else◌, nat_le, count_ones, option_and_then, option_map, bytes_eq}
+use Rattle.std.specs.Prelude.{if◌then◌else◌, nat_le, nat_lt, count_ones, option_and_then, option_map, bytes_eq}
 use Rattle.std.specs.List.{list_all}
 use Rattle.std.proofs.lemmas.Bool.Decides.{Decides-eqb, nat_tests}
 use Rattle.hb_api.specs.declared.request.GetFlowsRequest.{GetFlowsRequest}
@@ -10,7 +10,7 @@ use Rattle.hb_words.specs.declared.job.Job.TheVariants as means
 use Rattle.hb_words.specs.declared.job.Observe.{Observe}
 use Rattle.hb_words.specs.Limits.{IsWithin, ring_size, largest_ring, default_capacity, default_slot, default_node}
 use Rattle.hb_words.specs.Options.{are_options, value}
-use Rattle.hb_words.specs.Values.{number, is_capacity, is_slot, is_name, is_name_letter, capacity, slot, node, request, is_frames}
+use Rattle.hb_words.specs.Values.{number, number_that, flows, is_capacity, is_slot, is_name, is_name_letter, capacity, slot, node, request, is_frames}
 use Rattle.hb_words.specs.Words.{observe_of, observe_with, observe, job}
 use Rattle.hb_words.proofs.Numbers.{capacity_from_ones}
 
@@ -59,15 +59,27 @@ node_within (Some text) name e =
     let q = all_three (nat_le 1 (length text)) (nat_le (length text) longest_name) (list_all is_name_letter text) p.0 in
     subst (λ (n : List ℕ). length n ≤ longest_name) p.1 (le_from (length text) longest_name q.1)
 
+-- no request follows
+asks_alone : (first : Bool) (n : Option ℕ) (r : GetFlowsRequest) → option_map (flows first) n ≡ Some r → r.follow ≡ false
+asks_alone first None r e = absurd (cc)
+asks_alone first (Some n) r e = let same : flows first n ≡ r = cc in subst (λ (x : GetFlowsRequest). x.follow ≡ false) same refl
+
+request_alone : (last first : Option (List ℕ)) (r : GetFlowsRequest) → request last first ≡ Some r → r.follow ≡ false
+request_alone None None r e = let same : flows false 0 ≡ r = cc in subst (λ (x : GetFlowsRequest). x.follow ≡ false) same refl
+request_alone (Some last) None r e = asks_alone false (number_that (nat_lt 0) last) r e
+request_alone None (Some first) r e = asks_alone true (number_that (nat_lt 0) first) r e
+request_alone (Some last) (Some first) r e = absurd (cc)
+
 of_within : (file : List ℕ) (c s : Option ℕ) (n : Option (List ℕ)) (r : Option GetFlowsRequest) (o : Observe) → observe_of file c s n r ≡ Some o
-    → ((m : ℕ) → c ≡ Some m → IsCapacity m) → ((m : ℕ) → s ≡ Some m → IsSlot m) → ((m : List ℕ) → n ≡ Some m → length m ≤ longest_name) → IsWithin o
+    → ((m : ℕ) → c ≡ Some m → IsCapacity m) → ((m : ℕ) → s ≡ Some m → IsSlot m) → ((m : List ℕ) → n ≡ Some m → length m ≤ longest_name)
+    → ((m : GetFlowsRequest) → r ≡ Some m → m.follow ≡ false) → IsWithin o
 of_within file None s n r o e = absurd (cc)
 of_within file (Some c) None n r o e = absurd (cc)
 of_within file (Some c) (Some s) None r o e = absurd (cc)
 of_within file (Some c) (Some s) (Some n) None o e = absurd (cc)
-of_within file (Some c) (Some s) (Some n) (Some r) o e = λ is_c is_s is_n.
+of_within file (Some c) (Some s) (Some n) (Some r) o e = λ is_c is_s is_n is_r.
     let p = kept (nat_le (ring_size c s) largest_ring) (record { file = file; capacity = c; slot = s; node = n; request = r }) o e in
-    subst IsWithin p.1 (record { capacity = is_c c refl; slot = is_s s refl; ring = le_from (ring_size c s) largest_ring p.0; node = is_n n refl })
+    subst IsWithin p.1 (record { capacity = is_c c refl; slot = is_s s refl; ring = le_from (ring_size c s) largest_ring p.0; node = is_n n refl; alone = is_r r refl })
 
 observe_within : (words : List (List ℕ)) (o : Observe) → observe words ≡ Some o → IsWithin o
 observe_within [] o e = absurd (cc)
@@ -76,6 +88,7 @@ observe_within (file ∷ options) o e =
     (request (value (codes "--last") options) (value (codes "--first") options)) o
     (given (are_options options && is_frames (value (codes "--output") options)) (observe_with file options) o e)
     (capacity_within (value (codes "--capacity") options)) (slot_within (value (codes "--slot") options)) (node_within (value (codes "--node") options))
+    (request_alone (value (codes "--last") options) (value (codes "--first") options))
 
 meant : (x : Option Observe) (o : Observe) → option_map means.Observe x ≡ Some (means.Observe o) → x ≡ Some o
 meant None o e = absurd (cc)

@@ -1,5 +1,5 @@
 -- The limits of a job, and what is taken for an option that is not given.
-use Rattle.std.specs.Prelude.{ℕ, ◌+◌, ◌*◌, ◌/◌, ◌^◌, ◌≤◌, List, length, codes}
+use Rattle.std.specs.Prelude.{◌≡◌, ℕ, ◌+◌, ◌*◌, ◌/◌, ◌^◌, ◌≤◌, List, length, codes, false}
 use Rattle.hb_api.specs.Limits.{longest_name}
 use Rattle.hb_look.specs.Limits.{IsCapacity, IsSlot}
 use Rattle.hb_words.specs.declared.job.Observe.{Observe}
@@ -25,9 +25,11 @@ ring_size capacity slot = (capacity + 1) * (slot / 8 + 1)
 abbrev pub largest_ring : ℕ
 largest_ring = 2 ^ 27
 
--- The ring can be opened and is not too large, and the name of the node is not too long.
+-- The ring can be opened and is not too large, the name of the node is not too long, and the
+-- reply is that of the window alone.
 pub record IsWithin (o : Observe) : Type 0 where
   pub capacity : IsCapacity o.capacity
   pub slot : IsSlot o.slot
   pub ring : ring_size o.capacity o.slot ≤ largest_ring
   pub node : length o.node ≤ longest_name
+  pub alone : o.request.follow ≡ false
