@@ -9,37 +9,33 @@ use Rattle.std.proofs.lemmas.List.Elements.{filter-append, filter_map-append}
 use Rattle.hb_look.specs.Looks.{Found, Got, Gone, LookMade}
 use Rattle.hb_flow.specs.declared.event.Event.{Event}
 use Rattle.hb_api.specs.declared.request.GetFlowsRequest.{GetFlowsRequest}
-use Rattle.hb_session.specs.Openings.{Opening, is_backward, are_enough}
+use Rattle.hb_session.specs.Openings.{Opening, Backwards, are_enough}
 use Rattle.hb_session.specs.Events.{event_of_record, passes, is_flow, lost_event, flows}
-use Rattle.hb_session.specs.Marks.{Record}
+use Rattle.hb_session.specs.Marks.{Record, event_found}
 use Rattle.hb_session.specs.Forward.{given_of}
-use Rattle.hb_session.specs.Backward.{event_found, read_newest, gone_from, gone_after, gone_last, backward_has_ended}
-use Rattle.hb_session.specs.Replies.{reply, has_ended}
-use Rattle.hb_session.specs.Steps.{Step, Backward, bytes_of, is_done, backward_place, kept, released, held_on, backward_read, backward_gone}
-use Rattle.hb_session.specs.Stands.{IsOnBackward}
-use Rattle.hb_session.proofs.Replies.{ended_backward, reply_backward, plus, bytes_more, flows_more, events_of, GivesMore}
+use Rattle.hb_session.specs.Backward.{read_newest, gone_from, gone_after, gone_last, backward, backward_has_ended}
+use Rattle.hb_session.specs.Steps.{Step, Backward, bytes_of, backward_is_over, backward_place, kept, released, held_on, backward_read, backward_gone}
+use Rattle.hb_session.specs.Stands.{IsBackwardAt}
+use Rattle.hb_session.proofs.Replies.{plus, bytes_more, flows_more, events_of, GivesMore}
 use Rattle.hb_session.proofs.Bools.{first_false, or_true, when_false, when_true}
 
 -- what is known of a window that goes on backwards
 pub record GoesBackward (o : Opening) (b : Backward) (looks : List LookMade) : Type 0 where
-  pub not : has_ended o looks ≡ false
-  pub none : reply o looks ≡ []
+  pub none : backward o looks ≡ []
   pub fewer : length looks < o.size
-  pub on : IsOnBackward o b looks
+  pub at : IsBackwardAt o b looks
 
-pub goes_backward : (o : Opening) (b : Backward) (looks : List LookMade) → has_ended o looks ≡ false → IsOnBackward o b looks → GoesBackward o b looks
-goes_backward o b looks not on =
-    let going : backward_has_ended o looks ≡ false = sym (ended_backward o looks on.way) ∙ not in record {
-      not = not;
-      none = reply_backward o looks on.way ∙ when_false (backward_has_ended o looks) _ [] going;
-      fewer = leb-false o.size (length looks) (first_false (nat_le o.size (length looks)) _ going);
-      on = on;
-    }
+pub goes_backward : (o : Opening) (b : Backward) (looks : List LookMade) → backward_has_ended o looks ≡ false → IsBackwardAt o b looks → GoesBackward o b looks
+goes_backward o b looks going at = record {
+  none = when_false (backward_has_ended o looks) _ [] going;
+  fewer = leb-false o.size (length looks) (first_false (nat_le o.size (length looks)) _ going);
+  at = at;
+}
 
 -- a step backwards is that of more looks
 pub record IsBackwardStep (o : Opening) (looks new : List LookMade) (step : Step Backward) : Type 0 where
-  pub gives : GivesMore o looks new step.put step.ended
-  pub on : step.ended ≡ false → IsOnBackward o step.state new
+  pub gives : GivesMore o Backwards looks new step.put step.ended
+  pub at : step.ended ≡ false → IsBackwardAt o step.state new
 
 last_more : (d : Option LookMade) (looks : List LookMade) (look : LookMade) → last_or d (plus looks look) ≡ Some look
 last_more d [] look = refl
@@ -109,12 +105,11 @@ keeps o b (Some event) = keeps_by o b event (passes o.request event)
 
 -- ---- the end of the reply, where it has come
 
--- what is to be known before what is held is put where the reply has ended
+-- what is to be known before what is held is put where the reading has ended
 record Holds (o : Opening) (b : Backward) (looks new : List LookMade) : Type 0 where
-  way : is_backward o.request ≡ true
-  none : reply o looks ≡ []
+  none : backward o looks ≡ []
   held : b.held ≡ bytes_of o (gone_last o.low new ++ reverse (read_newest o.request new))
-  on : backward_has_ended o new ≡ false → IsOnBackward o b new
+  at : backward_has_ended o new ≡ false → IsBackwardAt o b new
 
 module _ (o : Opening) (b : Backward) (looks new : List LookMade) (is : Holds o b looks new) where
   released_step : backward_has_ended o new ≡ true → IsBackwardStep o looks new (released b)
@@ -122,22 +117,22 @@ module _ (o : Opening) (b : Backward) (looks new : List LookMade) (is : Holds o 
       let all : List Event = gone_last o.low new ++ reverse (read_newest o.request new) in record {
         gives = record {
           events = all;
-          more = reply_backward o new is.way ∙ when_true (backward_has_ended o new) all [] e ∙ ap (λ (es : List Event). es ++ all) (sym is.none);
+          more = when_true (backward_has_ended o new) all [] e ∙ ap (λ (es : List Event). es ++ all) (sym is.none);
           bytes = is.held;
-          at_end = sym (ended_backward o new is.way ∙ e);
+          at_end = sym e;
         };
-        on = λ not. absurd cc;
+        at = λ not. absurd cc;
       }
 
   held_step : backward_has_ended o new ≡ false → IsBackwardStep o looks new (held_on b)
   held_step e = record {
     gives = record {
       events = [];
-      more = reply_backward o new is.way ∙ when_false (backward_has_ended o new) _ [] e ∙ ap (λ (es : List Event). es ++ []) (sym is.none);
+      more = when_false (backward_has_ended o new) _ [] e ∙ ap (λ (es : List Event). es ++ []) (sym is.none);
       bytes = refl;
-      at_end = sym (ended_backward o new is.way ∙ e);
+      at_end = sym e;
     };
-    on = λ _. is.on e;
+    at = λ _. is.at e;
   }
 
   step_by : (choice : Bool) → backward_has_ended o new ≡ choice → IsBackwardStep o looks new (cond choice (released b) (held_on b))
@@ -155,20 +150,20 @@ module _ (o : Opening) (b : Backward) (looks : List LookMade) (look : LookMade) 
 
   -- a record is read
   read_more : (new : Backward) (bytes : List ℕ) → look.found ≡ Got bytes → KeepLeaves o b new (events_of o (event_of_record bytes))
-      → (backward_has_ended o looks' ≡ is_done o new.passed new.flows) × Holds o new looks looks'
+      → (backward_has_ended o looks' ≡ backward_is_over o new) × Holds o new looks looks'
   read_more new bytes found leaves =
       let G = events_of o (event_of_record bytes) in
       let longer : length looks' ≡ length looks + 1 = length-append looks (look ∷ []) in
-      let passed : new.passed ≡ length looks' = omega (arith, leaves.passed, is.on.passed, longer) in
+      let passed : new.passed ≡ length looks' = omega (arith, leaves.passed, is.at.passed, longer) in
       let more = newest_got r looks look bytes found in
-      let flows_are : new.flows ≡ flows (read_newest r looks') = omega (arith, leaves.flows, is.on.flows, ap flows more, flows_more (read_newest r looks) G) in
+      let flows_are : new.flows ≡ flows (read_newest r looks') = omega (arith, leaves.flows, is.at.flows, ap flows more, flows_more (read_newest r looks) G) in
       let last : gone_last o.low looks' ≡ [] =
       ap (gone_after o.low) (last_more None looks look) ∙ ap (gone_from o.low look.position look.moment) found in
       let within : length looks' ≤ o.size = omega (arith, longer, is.fewer) in
       let turned : reverse (read_newest r looks') ≡ G ++ reverse (read_newest r looks) =
       ap reverse more ∙ reverse-append (read_newest r looks) G ∙ ap (λ (es : List Event). es ++ reverse (read_newest r looks)) (one_turned r (event_of_record bytes)) in
       let held : new.held ≡ bytes_of o (reverse (read_newest r looks')) =
-      leaves.held ∙ ap (λ (bytes : List ℕ). bytes_of o G ++ bytes) is.on.held
+      leaves.held ∙ ap (λ (bytes : List ℕ). bytes_of o G ++ bytes) is.at.held
       ∙ sym (bytes_more o G (reverse (read_newest r looks))) ∙ ap (bytes_of o) (sym turned) in
       let enough : Bool = are_enough r (flows (read_newest r looks')) in (
         ap (λ (es : List Event). nat_le o.size (length looks') || (enough || nat_lt 0 (length es))) last
@@ -177,10 +172,9 @@ module _ (o : Opening) (b : Backward) (looks : List LookMade) (look : LookMade) 
             ∙ ap (λ (e : Bool). e || are_enough r new.flows) (least_is (length looks') o.size within)
             ∙ ap (λ (n : ℕ). (n == o.size) || are_enough r new.flows) (sym passed),
         record {
-          way = is.on.way;
           none = is.none;
           held = held ∙ ap (λ (es : List Event). bytes_of o (es ++ reverse (read_newest r looks'))) (sym last);
-          on = λ _. record { way = is.on.way; passed = passed; flows = flows_are; held = held };
+          at = λ _. record { passed = passed; flows = flows_are; held = held };
         },
       )
 
@@ -188,13 +182,13 @@ module _ (o : Opening) (b : Backward) (looks : List LookMade) (look : LookMade) 
   read_step bytes found =
       let new : Backward = kept o b (event_of_record bytes) in
       let both = read_more new bytes found (keeps o b (event_of_record bytes)) in
-      step_by o new looks looks' both.1 (is_done o new.passed new.flows) both.0
+      step_by o new looks looks' both.1 (backward_is_over o new) both.0
 
   -- the rest is gone
   pub gone_step : (next : ℕ) → look.position ≡ backward_place o b → look.found ≡ Gone next → IsBackwardStep o looks looks' (backward_gone o b look.moment)
   gone_step next at found =
       let lost : Event = lost_event (o.size - b.passed) look.moment in
-      let count : look.position - o.low + 1 ≡ o.size - b.passed = omega (arith, at, is.on.passed, is.fewer) in
+      let count : look.position - o.low + 1 ≡ o.size - b.passed = omega (arith, at, is.at.passed, is.fewer) in
       let last : gone_last o.low looks' ≡ lost ∷ [] =
       ap (gone_after o.low) (last_more None looks look) ∙ ap (gone_from o.low look.position look.moment) found
       ∙ ap (λ (n : ℕ). lost_event n look.moment ∷ []) count in
@@ -204,8 +198,8 @@ module _ (o : Opening) (b : Backward) (looks : List LookMade) (look : LookMade) 
       ∙ ap (λ (e : Bool). nat_le o.size (length looks') || e) (or_true enough)
       ∙ or_true (nat_le o.size (length looks')) in
       let held : bytes_of o (lost ∷ []) ++ b.held ≡ bytes_of o (gone_last o.low looks' ++ reverse (read_newest r looks')) =
-      ap (λ (bytes : List ℕ). bytes_of o (lost ∷ []) ++ bytes) (is.on.held ∙ ap (λ (es : List Event). bytes_of o (reverse es)) (sym (newest_gone r looks look next found)))
+      ap (λ (bytes : List ℕ). bytes_of o (lost ∷ []) ++ bytes) (is.at.held ∙ ap (λ (es : List Event). bytes_of o (reverse es)) (sym (newest_gone r looks look next found)))
       ∙ sym (bytes_more o (lost ∷ []) (reverse (read_newest r looks')))
       ∙ ap (λ (es : List Event). bytes_of o (es ++ reverse (read_newest r looks'))) (sym last) in
       released_step o (record { passed = o.size; flows = b.flows; held = bytes_of o (lost ∷ []) ++ b.held }) looks looks'
-      (record { way = is.on.way; none = is.none; held = held; on = λ h. absurd cc }) ended
+      (record { none = is.none; held = held; at = λ h. absurd cc }) ended

@@ -25,9 +25,17 @@ pub second_false : (a b : Bool) → (a || b) ≡ false → b ≡ false
 second_false true b e = absurd cc
 second_false false b e = e
 
+pub both_true : (a b : Bool) → a ≡ true → b ≡ true → (a && b) ≡ true
+both_true true b first second = second
+both_true false b first second = absurd cc
+
 pub or_true : (b : Bool) → (b || true) ≡ true
 or_true true = refl
 or_true false = refl
+
+pub or_both : (a b c : Bool) → (a || (b || c)) ≡ ((a || b) || c)
+or_both true b c = refl
+or_both false b c = refl
 
 pub and_false : (b : Bool) → (b && false) ≡ false
 and_false true = refl

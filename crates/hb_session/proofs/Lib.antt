@@ -5,13 +5,16 @@ pub mod Replies
 pub mod ForwardSteps
 pub mod BackwardSteps
 pub mod Steps
+pub mod Closing
 pub mod Worked
 pub mod Grows
 pub mod Opened
 pub mod Growth
+pub mod Clients
 pub mod Sessions
 pub mod Turned
 pub mod Links
+pub mod Alone
 pub mod Looks
 pub mod WholeEvents
 pub mod WholeFlows

@@ -1,5 +1,5 @@
 -- A session stands for the looks that were made for it, after one more turn.
-use Rattle.std.proofs.Common.{◌≡◌, ◌≢◌, ◌↔◌, ◌⊎◌, inl, inr, ℕ, ◌+◌, ◌-◌, ◌^◌, ◌<◌, ◌≤◌, min, true, List, [], ◌∷◌, ◌++◌, Some, None, refl, sym, ap, ◌∙◌, append_assoc, arith, length, take, drop, subst}
+use Rattle.std.proofs.Common.{◌≡◌, ◌≢◌, ◌↔◌, ◌⊎◌, inl, inr, ℕ, ◌+◌, ◌-◌, ◌^◌, ◌<◌, ◌≤◌, min, true, false, List, [], ◌∷◌, ◌++◌, Some, None, refl, sym, ap, ◌∙◌, append_assoc, arith, length, take, drop, subst}
 use Rattle.std.proofs.lemmas.List.{append-nil, length-append, drop-append-le, take_all}
 use Rattle.std.proofs.Math.Seq.{take-append_seam}
 use Rattle.hb_look.specs.Looks.{LookMade}
@@ -60,8 +60,8 @@ module _ (s new : Session) (bytes : List ℕ) (open_is : s.answer ≡ None) (sam
   sent_gained = subst (HaveTurned s new []) (sym (gained_is s new bytes front)) (record {
     opening = ap (λ (x : Source). x.opening) same;
     stands = λ looks taken stands. subst (λ (ls : List LookMade). SessionStandsFor new ls (taken ++ bytes)) (sym (append-nil looks)) (sent_stands looks taken stands);
-    most = omega arith;
-    fewer = λ _. omega (arith, ap left same);
+    most = λ _. omega arith;
+    fewer = λ _ _. omega (arith, ap left same);
   })
 
 -- ---- a piece of work was done
@@ -87,13 +87,14 @@ module _ (s new : Session) (source : Source) (more : List LookMade) (is : s.sour
       })
 
   pub worked_turned : (at : ℕ) (before after : List ℕ) → HasWorked source new.source more before after → new.waiting ≡ drop at after
-      → s.waiting ≡ drop at before → at ≤ length before → length more ≤ left s.source → left new.source + length more ≤ left s.source
+      → s.waiting ≡ drop at before → at ≤ length before → (s.source.opening.request.follow ≡ false → length more ≤ left s.source)
+      → (s.source.opening.request.follow ≡ false → left new.source + length more ≤ left s.source)
       → HaveTurned s new more []
   worked_turned at before after worked waits waited within most fewer = record {
     opening = worked.opening ∙ sym (ap (λ (x : Source). x.opening) is);
     stands = worked_stands at before after waited waits within (subst (λ (x : Source). HasWorked x new.source more before after) (sym is) worked);
     most = most;
-    fewer = λ _. fewer;
+    fewer = λ ends _. fewer ends;
   }
 
 -- ---- memory was refused
@@ -131,14 +132,14 @@ module _ (s new : Session) (more : List LookMade) (open_is : s.answer ≡ None) 
         going = λ not. absurd (not starved);
       }))
 
-  pub starved_turned : (source : Source) → s.source ≡ source → new.source.opening ≡ source.opening → 1 ≤ left s.source
+  pub starved_turned : (source : Source) → s.source ≡ source → new.source.opening ≡ source.opening → (s.source.opening.request.follow ≡ false → 1 ≤ left s.source)
       → IsMadeMore source more → IsCountedMore source new.source more → HaveTurned s new more []
   starved_turned source is same some made counts = record {
     opening = same ∙ sym (ap (λ (x : Source). x.opening) is);
     stands = starved_stands (same ∙ sym (ap (λ (x : Source). x.opening) is))
         (subst (λ (x : Source). IsMadeMore x more) (sym is) made) (subst (λ (x : Source). IsCountedMore x new.source more) (sym is) counts);
-    most = omega (arith, one, some);
-    fewer = λ not. absurd (not starved);
+    most = λ ends. let least = some ends in omega (arith, one, least);
+    fewer = λ ends not. absurd (not starved);
   }
 
 -- ---- nothing was done
@@ -157,8 +158,8 @@ same_turned s new source waits sent answer = record {
         counts = is.counts;
         going = λ not. let on = is.going (λ e. not (answer e)) in (on.0, ap (λ (b : List ℕ). taken ++ b) waits ∙ on.1);
       })));
-  most = omega arith;
-  fewer = λ _. omega (arith, ap left source);
+  most = λ _. omega arith;
+  fewer = λ _ _. omega (arith, ap left source);
 }
 
 pub unmoved_turned : (s new : Session) (more : List LookMade) (taken : List ℕ) → more ≡ [] → taken ≡ [] → new.source ≡ s.source
@@ -174,14 +175,17 @@ abbrev pub IsGoingOn : Session → Session → List LookMade → Type 0
 IsGoingOn b c m = (b.answer ≢ Some turns.NoMemory) ⊎ ((m ≡ []) × (c ≡ b))
 
 module _ (a b c : Session) (l m : List LookMade) (k n : List ℕ) (first : HaveTurned a b l k) (second : HaveTurned b c m n) where
-  most_both : IsGoingOn b c m → length l + length m ≤ left a.source
-  most_both (inl not) = omega (arith, first.fewer not, second.most)
-  most_both (inr still) = omega (arith, ap length still.0, first.most)
+  ends_too : a.source.opening.request.follow ≡ false → b.source.opening.request.follow ≡ false
+  ends_too ends = ap (λ (o : Opening). o.request.follow) first.opening ∙ ends
 
-  fewer_both : IsGoingOn b c m → c.answer ≢ Some turns.NoMemory → left c.source + (length l + length m) ≤ left a.source
-  fewer_both (inl not) kept = omega (arith, first.fewer not, second.fewer kept)
-  fewer_both (inr still) kept =
-      let fewer = first.fewer (λ e. kept (ap (λ (x : Session). x.answer) still.1 ∙ e)) in
+  most_both : IsGoingOn b c m → a.source.opening.request.follow ≡ false → length l + length m ≤ left a.source
+  most_both (inl not) ends = omega (arith, first.fewer ends not, second.most (ends_too ends))
+  most_both (inr still) ends = omega (arith, ap length still.0, first.most ends)
+
+  fewer_both : IsGoingOn b c m → a.source.opening.request.follow ≡ false → c.answer ≢ Some turns.NoMemory → left c.source + (length l + length m) ≤ left a.source
+  fewer_both (inl not) ends kept = omega (arith, first.fewer ends not, second.fewer (ends_too ends) kept)
+  fewer_both (inr still) ends kept =
+      let fewer = first.fewer ends (λ e. kept (ap (λ (x : Session). x.answer) still.1 ∙ e)) in
       omega (arith, ap length still.0, ap (λ (x : Session). left x.source) still.1, fewer)
 
   pub turned_both : IsGoingOn b c m → HaveTurned a c (l ++ m) (k ++ n)
@@ -190,8 +194,8 @@ module _ (a b c : Session) (l m : List LookMade) (k n : List ℕ) (first : HaveT
     stands = λ before taken is.
         subst (λ (ls : List LookMade). SessionStandsFor c ls (taken ++ (k ++ n))) (append_assoc before l m)
         (subst (SessionStandsFor c ((before ++ l) ++ m)) (append_assoc taken k n) (second.stands (before ++ l) (taken ++ k) (first.stands before taken is)));
-    most = omega (arith, length-append l m, most_both on);
-    fewer = λ kept. omega (arith, length-append l m, fewer_both on kept);
+    most = λ ends. omega (arith, length-append l m, most_both on ends);
+    fewer = λ ends kept. omega (arith, length-append l m, fewer_both on ends kept);
   }
 
 -- a turn at whose beginning the moment was told
@@ -212,6 +216,10 @@ none_waits (b ∷ waiting) e = absurd (omega (arith, e))
 pub none_gained : (s new : Session) → s.waiting ≡ [] → gained s new ≡ []
 none_gained s new none =
     ap (λ (w : List ℕ). take (length w - length new.waiting) w) none ∙ take_all {A = ℕ} (0 - length new.waiting) [] (omega arith)
+
+pub gained_still : (s new : Session) → new.waiting ≡ s.waiting → gained s new ≡ []
+gained_still s new same =
+    let none : length s.waiting - length new.waiting ≡ 0 = omega (arith, ap length same) in ap (λ (n : ℕ). take n s.waiting) none
 
 pub gained_same : (s : Session) → gained s s ≡ []
 gained_same s = let none : length s.waiting - length s.waiting ≡ 0 = omega arith in ap (λ (n : ℕ). take n s.waiting) none
@@ -239,6 +247,8 @@ pub no_memory : (turn : Turn) → ended_by turn ≡ Some turns.NoMemory → turn
 no_memory turns.More e = absurd cc
 no_memory turns.Idle e = absurd cc
 no_memory turns.Done e = absurd cc
+no_memory turns.Cancelled e = absurd cc
+no_memory (turns.BadInput fault) e = absurd cc
 no_memory turns.LinkFault e = absurd cc
 no_memory turns.Spent e = absurd cc
 no_memory turns.NoMemory e = refl

@@ -1,14 +1,14 @@
 -- Turns one after another, until one does not answer More.
-use Rattle.std.proofs.Common.{◌≡◌, ◌≢◌, ◌↔◌, ◌⊎◌, inl, inr, ℕ, ◌+◌, ◌^◌, ◌<◌, ◌≤◌, ◌&&◌, true, false, Bool, cond, List, [], ◌∷◌, ◌++◌, Option, Some, None, refl, sym, ap, ◌∙◌, append_assoc, arith, length, max, subst}
+use Rattle.std.proofs.Common.{◌≡◌, ◌≢◌, ◌↔◌, ◌⊎◌, inl, inr, ℕ, ◌+◌, ◌-◌, ◌^◌, ◌<◌, ◌≤◌, min, ◌&&◌, true, false, Bool, cond, List, [], ◌∷◌, ◌++◌, Option, Some, None, refl, sym, ap, ◌∙◌, append_assoc, arith, length, max, subst}
 use Rattle.std.specs.Prelude.{nat_le}
 use Rattle.std.specs.List.{fold, All}
-use Rattle.hb_edge.specs.Causes.{Rose}
-use Rattle.std.proofs.lemmas.Bool.{cases_lt}
 use Rattle.std.proofs.lemmas.List.{length-append}
 use Rattle.std.proofs.lemmas.List.Sums.{fold-append}
+use Rattle.hb_edge.specs.Causes.{Rose}
+use Rattle.hb_edge.specs.Link.{Call, Read, Write}
 use Rattle.hb_edge.specs.declared.link.Moved.{Moved}
 use Rattle.hb_edge.specs.declared.link.Moved.TheVariants as moves
-use Rattle.hb_edge.proofs.Writes.{rose_on}
+use Rattle.hb_edge.proofs.Moves.{rose_on}
 use Rattle.hb_look.specs.Limits.{most_records, largest_capacity}
 use Rattle.hb_look.specs.Looks.{LookMade, added}
 use Rattle.hb_look.specs.Looks as looks
@@ -16,8 +16,13 @@ use Rattle.hb_look.proofs.Added.{added_both, none_added, all_none}
 use Rattle.hb_session.specs.declared.turn.Turn.{Turn}
 use Rattle.hb_session.specs.declared.turn.Turn.TheVariants as turns
 use Rattle.hb_session.specs.Openings.{Opening}
-use Rattle.hb_session.specs.Sessions.{Session, HaveTurned, HasDone, IsWhole, IsAnswerTo, AreTaken, HasTaken, HasAnswered, EndsBy, ended_by}
-use Rattle.hb_session.proofs.Sessions.{no_answer, none_waits, IsGoingOn, turned_both}
+use Rattle.std.specs.Option.{option_map_or}
+use Rattle.hb_session.specs.declared.way.Way.{Way}
+use Rattle.hb_session.specs.declared.way.Way.TheVariants as ways
+use Rattle.hb_session.specs.Stands.{left_by}
+use Rattle.hb_session.specs.Clients.{Heard, longest_piece, heard_of, is_for_client, IsStopped}
+use Rattle.hb_session.specs.Sessions.{Session, HaveTurned, HasDone, IsWhole, IsAnswerTo, IsWrittenOf, HasPassed, ArePassed, IsPassed, HasAnswered, EndsBy, ended_by}
+use Rattle.hb_session.proofs.Sessions.{no_answer, IsGoingOn, turned_both}
 
 -- ---- an answer after which a session is turned again
 
@@ -57,81 +62,166 @@ done_more old s answer l0 l m g k first second goes one done before taken is goi
 
 -- an answer that is none of these four
 pub which : (answer : Turn) → answer ≢ turns.More → answer ≢ turns.Idle → answer ≢ turns.LinkFault → answer ≢ turns.Spent
-    → (answer ≡ turns.Done) ⊎ (answer ≡ turns.NoMemory)
+    → (answer ≡ turns.Done) ⊎ ((answer ≡ turns.NoMemory) ⊎ (is_for_client answer ≡ true))
 which turns.More more idle fault spent = absurd (more refl)
 which turns.Idle more idle fault spent = absurd (idle refl)
 which turns.Done more idle fault spent = inl refl
+which turns.Cancelled more idle fault spent = inr (inr refl)
+which (turns.BadInput is) more idle fault spent = inr (inr refl)
 which turns.LinkFault more idle fault spent = absurd (fault refl)
 which turns.Spent more idle fault spent = absurd (spent refl)
-which turns.NoMemory more idle fault spent = inr refl
+which turns.NoMemory more idle fault spent = inr (inl refl)
+
+-- no more positions are left than the window has
+left_by_end : (size place : ℕ) (end : Option ℕ) → option_map_or (λ e. min (e - place) size) end 0 ≤ size
+left_by_end size place None = omega arith
+left_by_end size place (Some e) = omega arith
+
+left_within : (o : Opening) (way : Way) → left_by o way ≤ o.size
+left_within o (ways.Forward f) = left_by_end o.size f.place f.end
+left_within o (ways.Backward b) = omega arith
 
 -- so few looks were made that another one may be
 pub not_spent : (old s : Session) (l0 l : List LookMade) (g : List ℕ) → l ≡ l0 ++ added l0 l → HaveTurned old s (added l0 l) g → s.source.opening.size ≤ largest_capacity
-    → length l0 ≤ 2 ^ 61 → length l ≢ most_records
-not_spent old s l0 l g listed turned window few spent =
+    → old.source.opening.request.follow ≡ false → length l0 ≤ 2 ^ 61 → length l ≢ most_records
+not_spent old s l0 l g listed turned window ends few spent =
     let longer : length l ≡ length l0 + length (added l0 l) = ap length listed ∙ length-append l0 (added l0 l) in
-    omega (arith, longer, few, spent, turned.most, ap (λ (o : Opening). o.size) turned.opening, window)
+    let most = turned.most ends in
+    let within = left_within old.source.opening old.source.way in
+    omega (arith, longer, few, spent, most, within, ap (λ (o : Opening). o.size) turned.opening, window)
+
+-- ---- a turn that made no write
+
+is_end : (m : Moved) → (m ≡ moves.End) ⊎ (m ≢ moves.End)
+is_end (moves.Took n) = inr (λ e. absurd cc)
+is_end moves.NotYet = inr (λ e. absurd cc)
+is_end moves.End = inl refl
+is_end moves.Failed = inr (λ e. absurd cc)
+
+is_failed : (m : Moved) → (m ≡ moves.Failed) ⊎ (m ≢ moves.Failed)
+is_failed (moves.Took n) = inr (λ e. absurd cc)
+is_failed moves.NotYet = inr (λ e. absurd cc)
+is_failed moves.End = inr (λ e. absurd cc)
+is_failed moves.Failed = inl refl
+
+read_passed : (room : ℕ) (m : Moved) → m ≢ moves.Failed → HasPassed (Read room) m
+read_passed room (moves.Took n) fine = tt
+read_passed room moves.NotYet fine = tt
+read_passed room moves.End fine = tt
+read_passed room moves.Failed fine = absurd (fine refl)
+
+-- why it made none
+abbrev Unwritten : Turn → Heard → List ℕ → Type 0
+Unwritten turn heard waiting = (waiting ≡ []) ⊎ (IsStopped heard turn ⊎ (turn ≡ turns.NoMemory))
+
+no_idle : (turn : Turn) (heard : Heard) (waiting : List ℕ) → heard.last ≢ moves.Failed → Unwritten turn heard waiting → (turn ≡ turns.Idle → 0 < length waiting) → turn ≢ turns.Idle
+no_idle turn heard waiting fine (inl none) idle is = let some = idle is in omega (arith, some, ap length none)
+no_idle turn heard waiting fine (inr (inl (inl failed))) idle is = fine failed
+no_idle turn heard waiting fine (inr (inl (inr client))) idle is = absurd (let both : true ≡ false = sym client ∙ ap is_for_client is in cc)
+no_idle turn heard waiting fine (inr (inr none)) idle is = absurd (let both : turns.NoMemory ≡ turns.Idle = sym none ∙ is in cc)
+
+no_fault : (turn : Turn) (heard : Heard) (waiting : List ℕ) → heard.last ≢ moves.Failed → Unwritten turn heard waiting
+    → (turn ≡ turns.LinkFault → (0 < length waiting) ⊎ (heard.last ≡ moves.Failed)) → turn ≢ turns.LinkFault
+no_fault turn heard waiting fine (inl none) link is = elim (link is) [
+  | inl some ↦ omega (arith, some, ap length none)
+  | inr failed ↦ fine failed
+]
+no_fault turn heard waiting fine (inr (inl (inl failed))) link is = fine failed
+no_fault turn heard waiting fine (inr (inl (inr client))) link is = absurd (let both : true ≡ false = sym client ∙ ap is_for_client is in cc)
+no_fault turn heard waiting fine (inr (inr none)) link is = absurd (let both : turns.NoMemory ≡ turns.LinkFault = sym none ∙ is in cc)
 
 -- ---- what a link answered
 
-module _ {A : Type 0} (answer : A → List ℕ → Moved) (after : A → List ℕ → A) where
-  -- one write more of which bytes were taken
-  taken_more : (a : A) (pieces : List (List ℕ)) (piece : List ℕ) (n : ℕ) → AreTaken answer after a pieces
-      → answer (fold after a pieces) piece ≡ moves.Took n → AreTaken answer after a (pieces ++ piece ∷ [])
-  taken_more a [] piece n taken is = ((n, is), tt)
-  taken_more a (first ∷ pieces) piece n taken is = (taken.0, taken_more (after a first) pieces piece n taken.1 is)
+module _ {A : Type 0} (answer : A → Call → Moved) (after : A → Call → A) where
+  -- one call more that moved bytes, or was a read that gave none
+  passed_more : (a : A) (calls : List Call) (call : Call) → ArePassed answer after a calls
+      → HasPassed call (answer (fold after a calls) call) → ArePassed answer after a (calls ++ call ∷ [])
+  passed_more a [] call passed is = (is, tt)
+  passed_more a (first ∷ calls) call passed is = (passed.0, passed_more (after a first) calls call passed.1 is)
 
-  -- after an answer that is More, the link is as writes leave it
+  -- after an answer that is More, the link is as calls leave it
   pub went_on : {R : Type 0} (a new : A) (turn : Turn) → turn ≡ turns.More → EndsBy answer after a new turn ⊎ ((turn ≡ turns.LinkFault) × R)
-      → HasTaken answer after a new
+      → IsPassed answer after a new
   went_on a new turn more (inl ends) = subst (EndsBy answer after a new) more ends
   went_on a new turn more (inr failed) = absurd (let both : turns.More ≡ turns.LinkFault = sym more ∙ failed.0 in cc)
 
-  module _ (s : Session) (a b new : A) (before : HasTaken answer after a b) where
-    took_on : (n : ℕ) → answer b s.waiting ≡ moves.Took n → new ≡ after b s.waiting → HasTaken answer after a new
-    took_on n is wrote = (
-      before.0 ++ s.waiting ∷ [],
-      wrote ∙ ap (λ x. after x s.waiting) before.1 ∙ sym (fold-append after a before.0 (s.waiting ∷ [])),
-      taken_more a before.0 s.waiting n before.2 (sym (ap (λ x. answer x s.waiting) before.1) ∙ is),
+  -- a call after others
+  module _ (a b new : A) (call : Call) (before : IsPassed answer after a b) (made : new ≡ after b call) where
+    passed_on : HasPassed call (answer b call) → IsPassed answer after a new
+    passed_on is = (
+      before.0 ++ call ∷ [],
+      made ∙ ap (λ x. after x call) before.1 ∙ sym (fold-append after a before.0 (call ∷ [])),
+      passed_more a before.0 call before.2 (subst (λ x. HasPassed call (answer x call)) before.1 is),
     )
 
-    ends_in : (turn : Turn) (b : Bool) → turn ≡ cond b turns.Done turns.More → HasTaken answer after a new → EndsBy answer after a new turn
-    ends_in turn true is taken = subst (EndsBy answer after a new) (sym is) taken
-    ends_in turn false is taken = subst (EndsBy answer after a new) (sym is) taken
+    answered : (moved : Moved) → answer b call ≡ moved → HasAnswered answer after a new call moved
+    answered moved is = (before.0, before.2, made ∙ ap (λ x. after x call) before.1, sym (ap (λ x. answer x call) before.1) ∙ is)
 
-    answered : (moved : Moved) → answer b s.waiting ≡ moved → new ≡ after b s.waiting → HasAnswered answer after a new moved
-    answered moved is wrote =
-        (before.0, s.waiting, before.2, wrote ∙ ap (λ x. after x s.waiting) before.1, sym (ap (λ x. answer x s.waiting) before.1) ∙ is)
+  -- a write decides
+  ends_in : (a new : A) (turn : Turn) (b : Bool) → turn ≡ cond b turns.Done turns.More → IsPassed answer after a new → EndsBy answer after a new turn
+  ends_in a new turn true is passed = subst (EndsBy answer after a new) (sym is) passed
+  ends_in a new turn false is passed = subst (EndsBy answer after a new) (sym is) passed
 
-    -- the last write decides
-    ends_by : (turn : Turn) (moved : Moved) → answer b s.waiting ≡ moved → IsAnswerTo s moved turn → new ≡ after b s.waiting → EndsBy answer after a new turn
-    ends_by turn (moves.Took n) is told wrote = ends_in turn (s.source.ended && nat_le (length s.waiting) n) told (took_on n is wrote)
-    ends_by turn moves.NotYet is told wrote = subst (EndsBy answer after a new) (sym told) (answered moves.NotYet is wrote)
-    ends_by turn moves.End is told wrote = absurd told
-    ends_by turn moves.Failed is told wrote = subst (EndsBy answer after a new) (sym told) (answered moves.Failed is wrote)
+  ends_by : (s : Session) (a b new : A) (before : IsPassed answer after a b) (turn : Turn) (moved : Moved) → answer b (Write s.waiting) ≡ moved → IsAnswerTo s moved turn
+      → new ≡ after b (Write s.waiting) → EndsBy answer after a new turn
+  ends_by s a b new before turn (moves.Took n) is told wrote =
+      ends_in a new turn (s.source.ended && nat_le (length s.waiting) n) told
+      (passed_on a b new (Write s.waiting) before wrote (subst (HasPassed (Write s.waiting)) (sym is) tt))
+  ends_by s a b new before turn moves.NotYet is told wrote =
+      subst (EndsBy answer after a new) (sym told) (s.waiting, answered a b new (Write s.waiting) before wrote moves.NotYet is)
+  ends_by s a b new before turn moves.End is told wrote = absurd told
+  ends_by s a b new before turn moves.Failed is told wrote =
+      subst (EndsBy answer after a new) (sym told) (Write s.waiting, answered a b new (Write s.waiting) before wrote moves.Failed is)
 
-    -- or there was none
-    ends_still : (turn : Turn) → turn ≢ turns.Idle → turn ≢ turns.LinkFault → new ≡ b → EndsBy answer after a new turn
-    ends_still turns.Idle idle fault same = absurd (idle refl)
-    ends_still turns.LinkFault idle fault same = absurd (fault refl)
-    ends_still turns.More idle fault same = (before.0, same ∙ before.1, before.2)
-    ends_still turns.Done idle fault same = (before.0, same ∙ before.1, before.2)
-    ends_still turns.Spent idle fault same = (before.0, same ∙ before.1, before.2)
-    ends_still turns.NoMemory idle fault same = (before.0, same ∙ before.1, before.2)
+  -- or there was none
+  ends_still : (a new : A) (turn : Turn) → turn ≢ turns.Idle → turn ≢ turns.LinkFault → IsPassed answer after a new → EndsBy answer after a new turn
+  ends_still a new turns.Idle idle fault passed = absurd (idle refl)
+  ends_still a new turns.LinkFault idle fault passed = absurd (fault refl)
+  ends_still a new turns.More idle fault passed = passed
+  ends_still a new turns.Done idle fault passed = passed
+  ends_still a new turns.Cancelled idle fault passed = passed
+  ends_still a new (turns.BadInput is) idle fault passed = passed
+  ends_still a new turns.Spent idle fault passed = passed
+  ends_still a new turns.NoMemory idle fault passed = passed
 
-    -- what a link answered to the last write decides, where bytes waited
-    pub ends_with : (turn : Turn) (r0 r1 r2 : ℕ) → r0 ≤ r1
-        → (0 < length s.waiting → (IsAnswerTo s (answer b s.waiting) turn × (new ≡ after b s.waiting)) ⊎ ((turn ≡ turns.LinkFault) × Rose r1 r2))
-        → (s.waiting ≡ [] → new ≡ b) → (turn ≡ turns.Idle → 0 < length s.waiting) → (turn ≡ turns.LinkFault → 0 < length s.waiting)
-        → EndsBy answer after a new turn ⊎ ((turn ≡ turns.LinkFault) × Rose r0 r2)
-    ends_with turn r0 r1 r2 later exact still idle fault = elim (cases_lt 0 (length s.waiting)) [
-      | inl some ↦ elim (exact some) [
-        | inl told ↦ inl (ends_by turn (answer b s.waiting) refl told.0 told.1)
-        | inr failed ↦ inr (failed.0, rose_on r0 r1 r2 r2 later (omega arith) failed.1)
-      ]
-      | inr none ↦ inl (ends_still turn (λ e. let some = idle e in omega (arith, some, none)) (λ e. let some = fault e in omega (arith, some, none))
-          (still (none_waits s.waiting (omega (arith, none)))))
+  -- after what was heard
+  heard_end : (last : Moved) (b : A) → last ≡ moves.End → heard_of after last b ≡ b
+  heard_end last b is = ap (λ (m : Moved). heard_of after m b) is
+
+  heard_read : (last : Moved) (b : A) → last ≢ moves.End → heard_of after last b ≡ after b (Read longest_piece)
+  heard_read (moves.Took n) b not = refl
+  heard_read moves.NotYet b not = refl
+  heard_read moves.End b not = absurd (not refl)
+  heard_read moves.Failed b not = refl
+
+  module _ (s : Session) (heard : Heard) (a b new : A) (before : IsPassed answer after a b)
+      (reads : s.heard.last ≢ moves.End → heard.last ≡ answer b (Read longest_piece)) (ended : s.heard.last ≡ moves.End → heard ≡ s.heard) where
+    passed_heard : heard.last ≢ moves.Failed → IsPassed answer after a (heard_of after s.heard.last b)
+    passed_heard fine = elim (is_end s.heard.last) [
+      | inl end ↦ subst (IsPassed answer after a) (sym (heard_end s.heard.last b end)) before
+      | inr not ↦ subst (IsPassed answer after a) (sym (heard_read s.heard.last b not))
+          (passed_on a b (after b (Read longest_piece)) (Read longest_piece) before refl (read_passed longest_piece _ (λ e. fine (reads not ∙ e))))
     ]
+
+    not_end : heard.last ≡ moves.Failed → s.heard.last ≢ moves.End
+    not_end failed end = absurd (let both : moves.Failed ≡ moves.End = sym failed ∙ ap (λ (h : Heard). h.last) (ended end) ∙ end in cc)
+
+    -- the last call decides
+    pub ends_with : (turn : Turn) (r0 r1 r2 : ℕ) → r0 ≤ r1 → IsWrittenOf answer after s heard turn (heard_of after s.heard.last b) new r1 r2
+        → (heard.last ≡ moves.Failed → turn ≡ turns.LinkFault) → (turn ≡ turns.Idle → 0 < length s.waiting)
+        → (turn ≡ turns.LinkFault → (0 < length s.waiting) ⊎ (heard.last ≡ moves.Failed))
+        → EndsBy answer after a new turn ⊎ ((turn ≡ turns.LinkFault) × Rose r0 r2)
+    ends_with turn r0 r1 r2 later (inl (same, why)) fault idle link = elim (is_failed heard.last) [
+      | inl failed ↦
+          let not = not_end failed in
+          inl (subst (EndsBy answer after a new) (sym (fault failed))
+          (Read longest_piece, answered a b new (Read longest_piece) before (same ∙ heard_read s.heard.last b not) moves.Failed (sym (reads not) ∙ failed)))
+      | inr fine ↦ inl (ends_still a new turn (no_idle turn heard s.waiting fine why idle) (no_fault turn heard s.waiting fine why link)
+          (subst (IsPassed answer after a) (sym same) (passed_heard fine)))
+    ]
+    ends_with turn r0 r1 r2 later (inr (inl (some, fine, told, wrote))) fault idle link =
+        inl (ends_by s a (heard_of after s.heard.last b) new (passed_heard fine) turn (answer (heard_of after s.heard.last b) (Write s.waiting)) refl told wrote)
+    ends_with turn r0 r1 r2 later (inr (inr failed)) fault idle link = inr (failed.0, rose_on r0 r1 r2 r2 later (omega arith) failed.1)
 
 -- ---- the looks of the last turn
 
@@ -149,3 +239,8 @@ pub made_by : (old s new : Session) (now : ℕ) (l m : List LookMade) (before : 
     → (s.answer ≡ None → new.moment ≡ max s.moment now) → max s.moment now ≡ max old.moment now → All (IsMadeAt (max old.moment now)) (added l m)
 made_by old s new now l m None is at leads repeats moment same = λ k d below. (at k d below ∙ moment is ∙ same, leads k d below)
 made_by old s new now l m (Some told) is at leads repeats moment same = all_none (IsMadeAt (max old.moment now)) l m (repeats told is)
+
+-- ---- other causes
+
+pub spent_memory : {answer : Turn} → answer ≡ turns.Spent → answer ≢ turns.NoMemory
+spent_memory is other = absurd (let both : turns.Spent ≡ turns.NoMemory = sym is ∙ other in cc)

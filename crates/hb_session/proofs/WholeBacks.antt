@@ -10,13 +10,15 @@ use borrow.Author.Count.{below_none, below_more}
 use Rattle.hb_look.specs.Looks.{Got, LookMade}
 use Rattle.hb_flow.specs.declared.event.Event.{Event}
 use Rattle.hb_api.specs.declared.request.GetFlowsRequest.{GetFlowsRequest}
-use Rattle.hb_session.specs.Openings.{Opening, is_backward, are_enough}
+use Rattle.hb_session.specs.Openings.{Opening, Backwards, is_backward, are_enough}
 use Rattle.hb_session.specs.Events.{event_of_record, passes, flows}
-use Rattle.hb_session.specs.Backward.{event_found, read_newest, gone_from, gone_after, gone_last, backward_has_ended}
+use Rattle.hb_session.specs.Marks.{event_found}
+use Rattle.hb_session.specs.Backward.{read_newest, gone_from, gone_after, gone_last, backward_has_ended}
 use Rattle.hb_frame.specs.Frames.{Frame}
 use Rattle.hb_session.specs.Replies.{has_ended, reply, event_frames, status_frame, spelled, AreMadeAfter}
 use Rattle.hb_session.proofs.Bools.{first_false, second_false, when_true}
-use Rattle.hb_session.proofs.Replies.{flows_more, plus, ended_backward, place_backward, reply_backward}
+use Rattle.hb_session.proofs.Replies.{flows_more, plus}
+use Rattle.hb_session.proofs.Alone.{backwards_alone, AreOwn, ended_alone, reply_alone, place_alone, own_more, own_made}
 use Rattle.hb_session.specs.Whole.{IsGot, IsReply, passing, frames_of}
 use Rattle.hb_session.proofs.WholeEvents.{Holds}
 use Rattle.hb_session.proofs.WholeFlows.{few_of, enough_of}
@@ -84,7 +86,7 @@ pub record GivesBack (o : Opening) (es : List Event) (bytes : List ℕ) : Type 0
   pub later : (m : ℕ) → start < m → flows (passing o (drop m es)) < o.request.number
   pub ends : (start ≡ 0) ⊎ (o.request.number ≤ flows (passing o (drop start es)))
 
-module _ (cap : ℕ) (o : Opening) (log : List (List ℕ)) (es : List Event) (way : is_backward o.request ≡ true) (some : 0 < o.request.number) (has : Holds o log es) where
+module _ (cap : ℕ) (o : Opening) (log : List (List ℕ)) (es : List Event) (way : is_backward o.request ≡ true) (alone : o.request.follow ≡ false) (some : 0 < o.request.number) (has : Holds o log es) where
   -- one more look, which got the record of this event
   back_with : (looks : List LookMade) (look : LookMade) (bytes : List ℕ) (e : Event) (k : ℕ) → IsBack o es looks
       → flows (passing o (drop (length es - length looks) es)) < o.request.number → suc k ≡ length es - length looks → slice_get es k ≡ Some e
@@ -114,19 +116,20 @@ module _ (cap : ℕ) (o : Opening) (log : List (List ℕ)) (es : List Event) (wa
   flows_read looks back =
       sym (flows_turned (read_newest o.request looks)) ∙ ap flows (filter_turned o.request (found_events looks)) ∙ ap (λ (seen : List Event). flows (passing o seen)) back.seen
 
-  back_on : (before looks : List LookMade) → IsBack o es before → AreMadeAfter o before looks → AllByRecursion (IsGot cap log) looks → IsBack o es (before ++ looks)
-  back_on before [] back made got = subst (IsBack o es) (sym (append-nil before)) back
-  back_on before (look ∷ looks) back made got =
+  back_on : (before looks : List LookMade) → IsBack o es before → AreOwn o Backwards before → AreMadeAfter o before looks → AllByRecursion (IsGot cap log) looks → IsBack o es (before ++ looks)
+  back_on before [] back own made got = subst (IsBack o es) (sym (append-nil before)) back
+  back_on before (look ∷ looks) back own made got =
       let s = o.request in
+      let one = backwards_alone o way alone in
       let full = nat_le o.size (length before) in
       let enough = are_enough s (flows (read_newest s before)) in
       let gone = nat_lt 0 (length (gone_last o.low before)) in
-      let going : (full || (enough || gone)) ≡ false = sym (ended_backward o before way) ∙ made.0 in
+      let going : (full || (enough || gone)) ≡ false = sym (ended_alone o Backwards one before own) ∙ made.0 in
       let less : length before < o.size = leb-false o.size (length before) (first_false full (enough || gone) going) in
       let few : flows (read_newest s before) < s.number =
       few_of s (flows (read_newest s before)) some (first_false enough gone (second_false full (enough || gone) going)) in
-      let more = back_more before look back less (omega (arith, few, flows_read before back)) (made.1 ∙ place_backward o before way) got.0 in
-      subst (IsBack o es) (append_assoc before (look ∷ []) looks) (back_on (plus before look) looks more made.2 got.1)
+      let more = back_more before look back less (omega (arith, few, flows_read before back)) (made.1 ∙ place_alone o Backwards one before own made.0) got.0 in
+      subst (IsBack o es) (append_assoc before (look ∷ []) looks) (back_on (plus before look) looks more (own_more o Backwards one before look own made.0) made.2 got.1)
 
   -- from a later event on there are fewer flows
   later_few : (looks : List LookMade) (m : ℕ) → IsBack o es looks → length es - length looks < m → flows (passing o (drop m es)) < o.request.number
@@ -143,11 +146,13 @@ module _ (cap : ℕ) (o : Opening) (log : List (List ℕ)) (es : List Event) (wa
       let s = o.request in
       let looks = is.looks in
       let start = length es - length looks in
-      let back = back_on [] looks (no_back o es) is.made is.got in
+      let one = backwards_alone o way alone in
+      let own = own_made o Backwards one [] looks refl is.made in
+      let back = back_on [] looks (no_back o es) refl is.made is.got in
       let none : gone_last o.low looks ≡ [] = none_after cap o.low log None looks refl is.got in
-      let ended : backward_has_ended o looks ≡ true = sym (ended_backward o looks way) ∙ is.ended in
+      let ended : backward_has_ended o looks ≡ true = sym (ended_alone o Backwards one looks own) ∙ is.ended in
       let given : reply o looks ≡ passing o (drop start es) =
-      reply_backward o looks way
+      reply_alone o Backwards one looks own
       ∙ when_true (backward_has_ended o looks) (gone_last o.low looks ++ reverse (read_newest s looks)) [] ended
       ∙ ap (λ (gone : List Event). gone ++ reverse (read_newest s looks)) none
       ∙ filter_turned s (found_events looks)

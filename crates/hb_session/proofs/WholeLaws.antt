@@ -14,7 +14,7 @@ use Rattle.hb_session.proofs.WholeFronts.{is_enough, GivesFront, gives_front}
 
 module _ (o : Opening) (cap : ℕ) (log : List (List ℕ)) (events : List Event) (bytes : List ℕ) (has : HasEvents o log events) (is : IsReply o cap log bytes) where
   front_of : is_backward o.request ≡ false → GivesFront o events bytes
-  front_of way = gives_front cap o log events way (holds o log events has) bytes is
+  front_of way = gives_front cap o log events way is.alone (holds o log events has) bytes is
 
   -- ---- all
 
@@ -73,7 +73,7 @@ module _ (o : Opening) (cap : ℕ) (log : List (List ℕ)) (events : List Event)
   pub last_reply : 0 < o.request.number → o.request.first ≡ false → GivesLast o events bytes
   last_reply some last =
       let s = o.request in
-      let back : GivesBack o events bytes = gives_back cap o log events (backwards_last s.number s.first some last) some (holds o log events has) bytes is in (
+      let back : GivesBack o events bytes = gives_back cap o log events (backwards_last s.number s.first some last) is.alone some (holds o log events has) bytes is in (
         back.start,
         back.whole,
         back.later,

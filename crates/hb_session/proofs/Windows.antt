@@ -1,19 +1,22 @@
--- The positions of a window that is read forwards and their parts, with one more look.
+-- The positions of a span that is read forwards and their parts, with one more look.
 use Rattle.std.proofs.Common.{◌≡◌, ℕ, zero, suc, ◌+◌, List, [], ◌∷◌, ◌++◌, Option, Some, None, refl, sym, ap, ◌∙◌, append_assoc, arith, replicate, drop, length, ◌-◌, ◌<◌, min, Bool, true, false, cond, take, inl, inr}
 use Rattle.std.proofs.lemmas.List.{append-nil, take_all, length-take-le, take-replicate, length-replicate}
 use Rattle.hb_flow.specs.declared.event.Event.{Event}
 use Rattle.hb_session.specs.declared.loss.Loss.{Loss}
 use Rattle.hb_session.specs.Steps.{loss_count}
 use Rattle.hb_session.specs.Stands.{open_part}
-use Rattle.hb_session.specs.Marks.{Mark, Read, Over, Part, Record, Stretch, with_over, parts_of, closed, passed_over, marks_of, marks}
+use Rattle.hb_session.specs.Marks.{Mark, Read, Over, Part, Record, Stretch, with_over, parts_of, closed, passed_over, marks_of, size_of, upto, marks, is_through}
+use Rattle.std.specs.Prelude.{◌==◌}
 use Rattle.std.specs.List.{flat_map}
+use Rattle.std.specs.Option.{option_map, option_map_or, ForSome}
 use Rattle.std.proofs.lemmas.Bool.{cases_lt, eqb-false}
 use Rattle.std.proofs.Math.Seq.{take-append-add}
 use Rattle.std.proofs.lemmas.Grind.{flat_map-append}
 use Rattle.hb_look.specs.Looks.{Found, Got, Gone, LookMade}
+use Rattle.hb_session.specs.declared.span.Span.{Span}
 use Rattle.hb_session.specs.Openings.{Opening}
 use Rattle.hb_session.specs.Events.{event_of_record, lost_event}
-use Rattle.hb_session.specs.Forward.{given_of, is_through, forward}
+use Rattle.hb_session.specs.Forward.{given_of, forward}
 use Rattle.hb_session.proofs.Bools.{same_if}
 
 -- ---- the parts of positions, when more positions follow
@@ -106,79 +109,105 @@ more_over (suc k) ms loss m is =
     ∙ ap (λ (ps : List Part). ps ++ Stretch (suc (loss_count loss) + suc k) m ∷ []) shut
     ∙ ap (λ (n : ℕ). closed (parts_of ms) ++ Stretch n m ∷ []) same
 
--- ---- the window
+-- ---- the span
 
 -- all positions that looks passed over, however many
 abbrev pub all_marks : List LookMade → List Mark
 all_marks looks = flat_map marks_of looks
 
--- where looks did not pass over all of a window, they passed over fewer positions than it has
-pub not_through : (size : ℕ) (looks : List LookMade) → is_through size looks ≡ false
-    → (marks size looks ≡ all_marks looks) × (length (all_marks looks) < size)
-not_through size looks not =
-    elim (cases_lt (length (all_marks looks)) size) [
-      | inl less ↦ (take_all size (all_marks looks) (omega (arith, less)), less)
-      | inr enough ↦ absurd (eqb-false (length (marks size looks)) size not (length-take-le size (all_marks looks) enough))
+-- so many positions are left of a size, where there is one
+abbrev pub room : Option ℕ → List Mark → Option ℕ
+room size ms = option_map (λ n. n - length ms) size
+
+-- where looks did not pass over all of a span, they passed over fewer positions than it has
+pub not_all : (size : Option ℕ) (ms : List Mark) → option_map_or (λ n. length (upto size ms) == n) size false ≡ false
+    → (upto size ms ≡ ms) × ForSome size (λ n. length ms < n)
+not_all None ms not = (refl, λ n e. absurd cc)
+not_all (Some n) ms not =
+    elim (cases_lt (length ms) n) [
+      | inl less ↦ (take_all n ms (omega (arith, less)), λ m e. let same : n ≡ m = cc in omega (arith, less, same))
+      | inr enough ↦ absurd (eqb-false (length (take n ms)) n not (length-take-le n ms enough))
     ]
 
+pub not_through : (span : Span) (looks : List LookMade) → is_through span looks ≡ false
+    → (marks span looks ≡ all_marks looks) × ForSome (size_of span) (λ n. length (all_marks looks) < n)
+not_through span looks = not_all (size_of span) (all_marks looks)
+
+upto_more : (size : Option ℕ) (ms more : List Mark) → ForSome size (λ n. length ms < n) → upto size (ms ++ more) ≡ ms ++ upto (room size ms) more
+upto_more None ms more fewer = refl
+upto_more (Some n) ms more fewer =
+    let less : length ms < n = fewer n refl in
+    let whole : n ≡ length ms + (n - length ms) = omega (arith, less) in
+    ap (λ (k : ℕ). take k (ms ++ more)) whole ∙ take-append-add ms more (n - length ms)
+
 -- one more look
-pub marks_with : (size : ℕ) (looks : List LookMade) (look : LookMade) → is_through size looks ≡ false
-    → marks size (looks ++ look ∷ []) ≡ marks size looks ++ take (size - length (marks size looks)) (marks_of look)
-marks_with size looks look not =
-    let is = not_through size looks not in
+pub marks_with : (span : Span) (looks : List LookMade) (look : LookMade) → is_through span looks ≡ false
+    → marks span (looks ++ look ∷ []) ≡ marks span looks ++ upto (room (size_of span) (marks span looks)) (marks_of look)
+marks_with span looks look not =
+    let is = not_through span looks not in
     let all = all_marks looks in
     let whole : all_marks (looks ++ look ∷ []) ≡ all ++ marks_of look =
     flat_map-append marks_of looks (look ∷ []) ∙ ap (λ (ms : List Mark). all ++ ms) (append-nil (marks_of look)) in
-    let room : size ≡ length all + (size - length all) = omega (arith, is.1) in
-    ap (take size) whole
-    ∙ ap (λ (n : ℕ). take n (all ++ marks_of look)) room
-    ∙ take-append-add all (marks_of look) (size - length all)
-    ∙ ap (λ (ms : List Mark). ms ++ take (size - length ms) (marks_of look)) (sym is.0)
+    ap (upto (size_of span)) whole
+    ∙ upto_more (size_of span) all (marks_of look) is.1
+    ∙ ap (λ (ms : List Mark). ms ++ upto (room (size_of span) ms) (marks_of look)) (sym is.0)
 
-pub marks_got : (size : ℕ) (looks : List LookMade) (look : LookMade) (bytes : List ℕ) → is_through size looks ≡ false → look.found ≡ Got bytes
-    → marks size (looks ++ look ∷ []) ≡ marks size looks ++ Read (event_of_record bytes) ∷ []
-marks_got size looks look bytes not found =
-    let is = not_through size looks not in
-    let fewer : length (marks size looks) < size = omega (arith, ap length is.0, is.1) in
-    let room : ℕ = size - length (marks size looks) in
-    marks_with size looks look not
-    ∙ ap (λ (f : Found). marks size looks ++ take room (passed_over look.position look.moment f)) found
-    ∙ ap (λ (ms : List Mark). marks size looks ++ ms) (take_all room (Read (event_of_record bytes) ∷ []) (omega (arith, fewer)))
+-- of what is left, one position is read
+one_of : (size : Option ℕ) (ms : List Mark) (mark : Mark) → ForSome size (λ n. length ms < n) → upto (room size ms) (mark ∷ []) ≡ mark ∷ []
+one_of None ms mark fewer = refl
+one_of (Some n) ms mark fewer = let less : length ms < n = fewer n refl in take_all (n - length ms) (mark ∷ []) (omega (arith, less))
 
--- what is given, before the window's end
-pub forward_open : (o : Opening) (looks : List LookMade) → is_through o.size looks ≡ false
-    → forward o looks ≡ flat_map (given_of o.request) (closed (parts_of (marks o.size looks)))
-forward_open o looks not =
-    ap (λ (b : Bool). flat_map (given_of o.request) (cond b (parts_of (marks o.size looks)) (closed (parts_of (marks o.size looks))))) not
+pub fewer_than : (span : Span) (looks : List LookMade) → is_through span looks ≡ false → ForSome (size_of span) (λ n. length (marks span looks) < n)
+fewer_than span looks not n e = let is = not_through span looks not in let less = is.1 n e in omega (arith, less, ap length is.0)
+
+pub marks_got : (span : Span) (looks : List LookMade) (look : LookMade) (bytes : List ℕ) → is_through span looks ≡ false → look.found ≡ Got bytes
+    → marks span (looks ++ look ∷ []) ≡ marks span looks ++ Read (event_of_record bytes) ∷ []
+marks_got span looks look bytes not found =
+    let left : Option ℕ = room (size_of span) (marks span looks) in
+    marks_with span looks look not
+    ∙ ap (λ (f : Found). marks span looks ++ upto left (passed_over look.position look.moment f)) found
+    ∙ ap (λ (ms : List Mark). marks span looks ++ ms) (one_of (size_of span) (marks span looks) (Read (event_of_record bytes)) (fewer_than span looks not))
+
+-- what is given, before the span's end
+pub forward_open : (o : Opening) (span : Span) (looks : List LookMade) → is_through span looks ≡ false
+    → forward o span looks ≡ flat_map (given_of o.request) (closed (parts_of (marks span looks)))
+forward_open o span looks not =
+    ap (λ (b : Bool). flat_map (given_of o.request) (cond b (parts_of (marks span looks)) (closed (parts_of (marks span looks))))) not
 
 -- a record that is read ends the open stretch
-pub with_got : (o : Opening) (looks : List LookMade) (look : LookMade) (bytes : List ℕ) (loss : Option Loss)
-    → is_through o.size looks ≡ false → IsOpen (marks o.size looks) loss → look.found ≡ Got bytes
-    → (forward o (looks ++ look ∷ [])
-    ≡ forward o looks ++ (flat_map (given_of o.request) (open_part loss) ++ given_of o.request (Record (event_of_record bytes))))
-    × IsOpen (marks o.size (looks ++ look ∷ [])) None
-with_got o looks look bytes loss not is found =
+pub with_got : (o : Opening) (span : Span) (looks : List LookMade) (look : LookMade) (bytes : List ℕ) (loss : Option Loss)
+    → is_through span looks ≡ false → IsOpen (marks span looks) loss → look.found ≡ Got bytes
+    → (forward o span (looks ++ look ∷ [])
+    ≡ forward o span looks ++ (flat_map (given_of o.request) (open_part loss) ++ given_of o.request (Record (event_of_record bytes))))
+    × IsOpen (marks span (looks ++ look ∷ [])) None
+with_got o span looks look bytes loss not is found =
     let event = event_of_record bytes in
     let g = given_of o.request in
-    let ms = marks o.size looks in
+    let ms = marks span looks in
     let ps = parts_of ms in
     let new = looks ++ look ∷ [] in
-    let read : parts_of (marks o.size new) ≡ ps ++ Record event ∷ [] = ap parts_of (marks_got o.size looks look bytes not found) ∙ parts_read ms event in
-    let shut : closed (parts_of (marks o.size new)) ≡ ps ++ Record event ∷ [] = ap closed read ∙ closed_record ps event in
-    let all : forward o new ≡ flat_map g (ps ++ Record event ∷ []) =
-    ap (flat_map g) (same_if (is_through o.size new) (parts_of (marks o.size new)) (closed (parts_of (marks o.size new))) (ps ++ Record event ∷ []) read shut) in
-    let before : flat_map g ps ≡ forward o looks ++ flat_map g (open_part loss) =
+    let read : parts_of (marks span new) ≡ ps ++ Record event ∷ [] = ap parts_of (marks_got span looks look bytes not found) ∙ parts_read ms event in
+    let shut : closed (parts_of (marks span new)) ≡ ps ++ Record event ∷ [] = ap closed read ∙ closed_record ps event in
+    let all : forward o span new ≡ flat_map g (ps ++ Record event ∷ []) =
+    ap (flat_map g) (same_if (is_through span new) (parts_of (marks span new)) (closed (parts_of (marks span new))) (ps ++ Record event ∷ []) read shut) in
+    let before : flat_map g ps ≡ forward o span looks ++ flat_map g (open_part loss) =
     ap (flat_map g) is ∙ flat_map-append g (closed ps) (open_part loss)
-    ∙ ap (λ (es : List Event). es ++ flat_map g (open_part loss)) (sym (forward_open o looks not)) in (
+    ∙ ap (λ (es : List Event). es ++ flat_map g (open_part loss)) (sym (forward_open o span looks not)) in (
       all ∙ flat_map-append g ps (Record event ∷ [])
           ∙ ap (λ (es : List Event). flat_map g ps ++ es) (append-nil (g (Record event)))
           ∙ ap (λ (es : List Event). es ++ g (Record event)) before
-          ∙ append_assoc (forward o looks) (flat_map g (open_part loss)) (g (Record event)),
-      read ∙ sym shut ∙ sym (append-nil (closed (parts_of (marks o.size new)))),
+          ∙ append_assoc (forward o span looks) (flat_map g (open_part loss)) (g (Record event)),
+      read ∙ sym shut ∙ sym (append-nil (closed (parts_of (marks span new)))),
     )
 
-replicate_upto : {A : Type 0} (most n : ℕ) (x : A) → take most (replicate n x) ≡ replicate (min n most) x
-replicate_upto most n x =
+-- a count, and no more than there are
+abbrev pub at_most : Option ℕ → ℕ → ℕ
+at_most None n = n
+at_most (Some most) n = min n most
+
+replicate_upto : {A : Type 0} (most : Option ℕ) (n : ℕ) (x : A) → upto most (replicate n x) ≡ replicate (at_most most n) x
+replicate_upto None n x = refl
+replicate_upto (Some most) n x =
     elim (cases_lt n most) [
       | inl less ↦
           let same : min n most ≡ n = omega (arith, less) in
@@ -188,17 +217,22 @@ replicate_upto most n x =
           take-replicate most n x more ∙ ap (λ (k : ℕ). replicate k x) (sym same)
     ]
 
--- how many positions of the window a look found overwritten
-abbrev pub gone_size : ℕ → List LookMade → ℕ → ℕ → ℕ
-gone_size size looks position next = min (next - position) (size - length (marks size looks))
+-- how many positions of the span a look found overwritten
+abbrev pub gone_size : Span → List LookMade → ℕ → ℕ → ℕ
+gone_size span looks position next = at_most (room (size_of span) (marks span looks)) (next - position)
 
-pub marks_gone : (size : ℕ) (looks : List LookMade) (look : LookMade) (next : ℕ) → is_through size looks ≡ false → look.found ≡ Gone next
-    → marks size (looks ++ look ∷ []) ≡ marks size looks ++ replicate (gone_size size looks look.position next) (Over look.moment)
-marks_gone size looks look next not found =
-    let room : ℕ = size - length (marks size looks) in
-    marks_with size looks look not
-    ∙ ap (λ (f : Found). marks size looks ++ take room (passed_over look.position look.moment f)) found
-    ∙ ap (λ (ms : List Mark). marks size looks ++ ms) (replicate_upto room (next - look.position) (Over look.moment))
+-- at least one
+some_of : (size : Option ℕ) (ms : List Mark) (n : ℕ) → ForSome size (λ n. length ms < n) → 0 < n → 0 < at_most (room size ms) n
+some_of None ms n fewer some = omega (arith, some)
+some_of (Some most) ms n fewer some = let less : length ms < most = fewer most refl in omega (arith, some, less)
+
+pub marks_gone : (span : Span) (looks : List LookMade) (look : LookMade) (next : ℕ) → is_through span looks ≡ false → look.found ≡ Gone next
+    → marks span (looks ++ look ∷ []) ≡ marks span looks ++ replicate (gone_size span looks look.position next) (Over look.moment)
+marks_gone span looks look next not found =
+    let left : Option ℕ = room (size_of span) (marks span looks) in
+    marks_with span looks look not
+    ∙ ap (λ (f : Found). marks span looks ++ upto left (passed_over look.position look.moment f)) found
+    ∙ ap (λ (ms : List Mark). marks span looks ++ ms) (replicate_upto left (next - look.position) (Over look.moment))
 
 given_at_end : (o : Opening) (end : Bool) (ps shut : List Part) (loss : Loss) → ps ≡ shut ++ Stretch loss.count loss.moment ∷ [] → closed ps ≡ shut
     → flat_map (given_of o.request) (cond end ps (closed ps))
@@ -208,31 +242,47 @@ given_at_end o true ps shut loss is closed_is =
 given_at_end o false ps shut loss is closed_is =
     ap (flat_map (given_of o.request)) closed_is ∙ sym (append-nil (flat_map (given_of o.request) shut))
 
--- positions that are found overwritten join the open stretch, which is given at the window's end
-pub with_gone : (o : Opening) (looks : List LookMade) (look : LookMade) (next : ℕ) (loss : Option Loss) (new : Loss)
-    → is_through o.size looks ≡ false → IsOpen (marks o.size looks) loss → look.found ≡ Gone next → look.position < next
-    → new.count ≡ loss_count loss + gone_size o.size looks look.position next → new.moment ≡ look.moment
-    → (forward o (looks ++ look ∷ [])
-    ≡ forward o looks ++ cond (is_through o.size (looks ++ look ∷ [])) (lost_event new.count new.moment ∷ []) [])
-    × IsOpen (marks o.size (looks ++ look ∷ [])) (Some new)
-with_gone o looks look next loss new not is found moves count at =
-    let ms = marks o.size looks in
+-- positions that are found overwritten join the open stretch, which is given at the span's end
+pub with_gone : (o : Opening) (span : Span) (looks : List LookMade) (look : LookMade) (next : ℕ) (loss : Option Loss) (new : Loss)
+    → is_through span looks ≡ false → IsOpen (marks span looks) loss → look.found ≡ Gone next → look.position < next
+    → new.count ≡ loss_count loss + gone_size span looks look.position next → new.moment ≡ look.moment
+    → (forward o span (looks ++ look ∷ [])
+    ≡ forward o span looks ++ cond (is_through span (looks ++ look ∷ [])) (lost_event new.count new.moment ∷ []) [])
+    × IsOpen (marks span (looks ++ look ∷ [])) (Some new)
+with_gone o span looks look next loss new not is found moves count at =
+    let ms = marks span looks in
     let ps = parts_of ms in
-    let k = gone_size o.size looks look.position next in
+    let k = gone_size span looks look.position next in
     let all = looks ++ look ∷ [] in
-    let through : Bool = is_through o.size all in
-    let fewer : length ms < o.size = omega (arith, ap length (not_through o.size looks not).0, (not_through o.size looks not).1) in
-    let some : k ≡ suc (k - 1) = omega (arith, fewer, moves) in
+    let through : Bool = is_through span all in
+    let least : 0 < k = some_of (size_of span) ms (next - look.position) (fewer_than span looks not) (omega (arith, moves)) in
+    let some : k ≡ suc (k - 1) = omega (arith, least) in
     let stretch : Part = Stretch new.count new.moment in
     let counts : loss_count loss + suc (k - 1) ≡ new.count = omega (arith, some, count) in
     let counted : Stretch (loss_count loss + suc (k - 1)) look.moment ≡ stretch =
     ap (λ (n : ℕ). Stretch n look.moment) counts ∙ ap (λ (m : ℕ). Stretch new.count m) (sym at) in
-    let parts : parts_of (marks o.size all) ≡ closed ps ++ stretch ∷ [] =
-    ap parts_of (marks_gone o.size looks look next not found ∙ ap (λ (n : ℕ). ms ++ replicate n (Over look.moment)) some)
+    let parts : parts_of (marks span all) ≡ closed ps ++ stretch ∷ [] =
+    ap parts_of (marks_gone span looks look next not found ∙ ap (λ (n : ℕ). ms ++ replicate n (Over look.moment)) some)
     ∙ more_over (k - 1) ms loss look.moment is
     ∙ ap (λ (p : Part). closed ps ++ p ∷ []) counted in
-    let shut : closed (parts_of (marks o.size all)) ≡ closed ps = ap closed parts ∙ closed_stretch (closed ps) new.count new.moment in (
-      given_at_end o through (parts_of (marks o.size all)) (closed ps) new parts shut
-          ∙ ap (λ (es : List Event). es ++ cond through (lost_event new.count new.moment ∷ []) []) (sym (forward_open o looks not)),
+    let shut : closed (parts_of (marks span all)) ≡ closed ps = ap closed parts ∙ closed_stretch (closed ps) new.count new.moment in (
+      given_at_end o through (parts_of (marks span all)) (closed ps) new parts shut
+          ∙ ap (λ (es : List Event). es ++ cond through (lost_event new.count new.moment ∷ []) []) (sym (forward_open o span looks not)),
       parts ∙ ap (λ (qs : List Part). qs ++ stretch ∷ []) (sym shut),
     )
+
+pub upto_none : {A : Type 0} (size : Option ℕ) → upto {A = A} size [] ≡ []
+upto_none None = refl
+upto_none (Some n) = take_all n [] (omega arith)
+
+-- a look that passes over no position
+pub with_none : (o : Opening) (span : Span) (looks : List LookMade) (look : LookMade) → is_through span looks ≡ false → marks_of look ≡ []
+    → (marks span (looks ++ look ∷ []) ≡ marks span looks) × (forward o span (looks ++ look ∷ []) ≡ forward o span looks)
+with_none o span looks look not none =
+    let left : Option ℕ = room (size_of span) (marks span looks) in
+    let same : marks span (looks ++ look ∷ []) ≡ marks span looks =
+    marks_with span looks look not
+    ∙ ap (λ (ms : List Mark). marks span looks ++ upto left ms) none
+    ∙ ap (λ (ms : List Mark). marks span looks ++ ms) (upto_none left)
+    ∙ append-nil (marks span looks) in
+    (same, ap (λ (ms : List Mark). flat_map (given_of o.request) (cond (option_map_or (λ n. length ms == n) (size_of span) false) (parts_of ms) (closed (parts_of ms)))) same)

@@ -5,13 +5,8 @@ use Rattle.hb_look.specs.Looks.{Found, Got, Gone, NotYet, LookMade}
 use Rattle.hb_flow.specs.declared.event.Event.{Event}
 use Rattle.hb_api.specs.declared.request.GetFlowsRequest.{GetFlowsRequest}
 use Rattle.hb_session.specs.Openings.{Opening, are_enough}
-use Rattle.hb_session.specs.Events.{event_of_record, passes, flows, lost_event}
-
--- the event of the record that was got
-abbrev pub event_found : Found → Option Event
-event_found (Got bytes) = event_of_record bytes
-event_found (Gone next) = None
-event_found NotYet = None
+use Rattle.hb_session.specs.Events.{passes, flows, lost_event}
+use Rattle.hb_session.specs.Marks.{event_found}
 
 -- the events that were read and pass, the newest first
 abbrev pub read_newest : GetFlowsRequest → List LookMade → List Event

@@ -1,6 +1,6 @@
 -- The events that a session reads, which of them it gives, and those that it makes of what was
 -- lost.
-use Rattle.std.specs.Prelude.{ℕ, pos, Bool, true, false, ◌&&◌, ◌||◌, List, [], Option, Some, None, unwrap_or, int_lt, int_le}
+use Rattle.std.specs.Prelude.{ℕ, pos, Bool, true, false, not, ◌&&◌, ◌||◌, List, [], Option, Some, None, unwrap_or, int_lt, int_le}
 use Rattle.std.specs.Option.{option_map_or}
 use Rattle.std.specs.List.{count_by}
 use Rattle.hb_time.specs.declared.stamp.Stamp.{Stamp}
@@ -39,6 +39,12 @@ is_within request stamp = option_map_or (λ since. not_after since stamp) reques
 abbrev pub passes : GetFlowsRequest → Event → Bool
 passes request (events.Flow flow) = is_within request (stamp_or_0 flow.time)
 passes request (events.Lost lost) = true
+
+-- whether an event is a flow that is stamped after the last moment that is asked for
+abbrev pub is_too_late : GetFlowsRequest → Event → Bool
+is_too_late request (events.Flow flow) =
+    option_map_or (λ until. not (not_after (stamp_or_0 flow.time) until)) request.until false
+is_too_late request (events.Lost lost) = false
 
 abbrev pub is_flow : Event → Bool
 is_flow (events.Flow flow) = true

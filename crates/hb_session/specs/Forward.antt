@@ -1,13 +1,14 @@
--- A window that is read forwards, from its start.
-use Rattle.std.specs.Prelude.{ℕ, Bool, true, false, not, ◌||◌, ◌==◌, List, [], ◌∷◌, length, Some, None, if◌then◌else◌}
-use Rattle.std.specs.List.{flat_map, count_by}
+-- A span of positions that is read forwards, from its start.
+use Rattle.std.specs.Prelude.{ℕ, Bool, true, false, not, ◌&&◌, ◌||◌, nat_le, List, [], ◌∷◌, Option, Some, None, if◌then◌else◌}
+use Rattle.std.specs.List.{flat_map, count_by, list_any}
 use Rattle.hb_look.specs.Looks.{LookMade}
 use Rattle.hb_flow.specs.declared.event.Event.{Event}
 use Rattle.hb_api.specs.declared.request.GetFlowsRequest.{GetFlowsRequest}
 use Rattle.hb_session.specs.declared.counts.Counts.{Counts}
-use Rattle.hb_session.specs.Openings.{Opening, are_enough}
-use Rattle.hb_session.specs.Events.{passes, flows, lost_event}
-use Rattle.hb_session.specs.Marks.{Mark, Read, Over, marks, Part, Record, Stretch, parts_of, closed}
+use Rattle.hb_session.specs.declared.span.Span.{Span}
+use Rattle.hb_session.specs.Openings.{Opening, top, are_enough}
+use Rattle.hb_session.specs.Events.{passes, is_too_late, flows, lost_event}
+use Rattle.hb_session.specs.Marks.{Mark, Read, Over, event_found, marks, is_through, Part, Record, Stretch, parts_of, closed}
 
 -- the event of a record that was read, where it passes; and the lost event of a stretch
 abbrev pub given_of : GetFlowsRequest → Part → List Event
@@ -15,24 +16,34 @@ given_of request (Record None) = []
 given_of request (Record (Some event)) = if passes request event then event ∷ [] else []
 given_of request (Stretch count moment) = lost_event count moment ∷ []
 
--- Looks passed over each position of the window.
-abbrev pub is_through : ℕ → List LookMade → Bool
-is_through size looks = length (marks size looks) == size
-
--- the parts that are settled: all of them at the window's end, and before it all but a stretch
--- that may go on
-abbrev pub settled : ℕ → List LookMade → List Part
-settled size looks = if is_through size looks
-    then parts_of (marks size looks) else closed (parts_of (marks size looks))
+-- the parts that are settled: all of them at the span's end, and before it all but a stretch that
+-- may go on
+abbrev pub settled : Span → List LookMade → List Part
+settled span looks = if is_through span looks
+    then parts_of (marks span looks) else closed (parts_of (marks span looks))
 
 -- what is given, in order: each event that passes, and one lost event for each stretch
-abbrev pub forward : Opening → List LookMade → List Event
-forward o looks = flat_map (given_of o.request) (settled o.size looks)
+abbrev pub forward : Opening → Span → List LookMade → List Event
+forward o span looks = flat_map (given_of o.request) (settled span looks)
 
--- the window is read, or as many flows were given as were asked for
-abbrev pub forward_has_ended : Opening → List LookMade → Bool
-forward_has_ended o looks =
-    is_through o.size looks || are_enough o.request (flows (forward o looks))
+-- as many flows were given as were asked for, where these are the first
+abbrev pub are_given : GetFlowsRequest → ℕ → Bool
+are_given request flows = request.first && are_enough request flows
+
+-- whether a record holds a flow behind the window that is stamped after `until`
+abbrev pub is_late : Opening → ℕ → Option Event → Bool
+is_late o position None = false
+is_late o position (Some event) = nat_le (top o) position && is_too_late o.request event
+
+-- A reading without an end came to such a flow.
+abbrev pub is_past : Opening → Option ℕ → List LookMade → Bool
+is_past o (Some end) looks = false
+is_past o None looks = list_any (λ look. is_late o look.position (event_found look.found)) looks
+
+-- the span is read, or as many flows were given as were asked for, or what follows is too late
+abbrev pub forward_has_ended : Opening → Span → List LookMade → Bool
+forward_has_ended o span looks = is_through span looks
+    || (are_given o.request (flows (forward o span looks)) || is_past o span.end looks)
 
 -- whether a record was read there that passes
 abbrev pub is_given : GetFlowsRequest → Mark → Bool

@@ -10,5 +10,6 @@ pub mod Steps
 pub mod Ways
 pub mod Stands
 pub mod Works
+pub mod Clients
 pub mod Sessions
 pub mod Whole

@@ -1,5 +1,5 @@
 -- The whole reply from a ring that is no longer written: each look of the session gets its record.
-use Rattle.std.specs.Prelude.{◌≡◌, ◌⊎◌, ℕ, ◌+◌, ◌<◌, List, [], ◌∷◌, ◌++◌, length, map, take, drop, true, Some, slice_get}
+use Rattle.std.specs.Prelude.{◌≡◌, ◌⊎◌, ℕ, ◌+◌, ◌<◌, List, [], ◌∷◌, ◌++◌, length, map, take, drop, true, false, Some, slice_get}
 use Rattle.std.specs.List.{filter, AllByRecursion}
 use Rattle.hb_look.specs.Looks.{LookMade, Got}
 use Rattle.hb_flow.specs.declared.event.Event.{Event}
@@ -13,9 +13,10 @@ abbrev pub IsGot : ℕ → List (List ℕ) → LookMade → Type 0
 IsGot cap log look = (bytes : List ℕ) × (look.found ≡ Got bytes)
     × (slice_get log look.position ≡ Some bytes) × (look.moment ≡ 0) × (look.capacity ≡ cap)
 
--- the bytes are the whole of what a session owes whose looks at a ring of this capacity each got
--- their record
+-- the bytes are the whole of what a session owes that does not follow, and whose looks at a ring of
+-- this capacity each got their record
 pub record IsReply (o : Opening) (cap : ℕ) (log : List (List ℕ)) (bytes : List ℕ) : Type 0 where
+  pub alone : o.request.follow ≡ false
   pub looks : List LookMade
   pub made : AreMade o looks
   pub got : AllByRecursion (IsGot cap log) looks

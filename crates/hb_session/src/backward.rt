@@ -1,8 +1,8 @@
 //! A window that is read backwards.
-ghost use Rattle.std.specs.Prelude.{◌≡◌, ◌<◌, ◌≤◌, ◌+◌, ◌++◌, length, take, IfOk, OnErr, IfSome};
+ghost use Rattle.std.specs.Prelude.{◌≡◌, ◌<◌, ◌≤◌, ◌+◌, ◌==◌, ◌++◌, length, take, IfOk, OnErr, IfSome};
 ghost use Rattle.hb_look.specs.Limits.{most_records};
 ghost use Rattle.hb_session.specs.Replies.{FitsFrame};
-ghost use Rattle.hb_session.specs.Steps.{backward_unread, backward_place, released, backward_read, backward_gone};
+ghost use Rattle.hb_session.specs.Steps.{backward_unread, backward_place, backward_is_over, released, backward_read, backward_gone};
 
 use crate::Loss;
 use crate::event::is_flow;
@@ -48,6 +48,20 @@ impl Backward {
         }
     }
 
+    /// Whether the window is read.
+    pub(crate) fn is_read(&self, opening: &Opening) -> bool
+        ensures { result ≡ (self.now.passed == opening.now.size) }
+    {
+        self.passed == opening.size()
+    }
+
+    /// Whether the window is read, or there are as many flows as were asked for.
+    fn is_over(&self, opening: &Opening) -> bool
+        ensures { result ≡ backward_is_over opening.now self.now }
+    {
+        self.is_read(opening) || opening.are_enough(self.flows)
+    }
+
     /// The position that is looked at next.
     pub(crate) fn place(&self, opening: &Opening) -> u64
         requires going { self.now.passed < opening.now.size }
@@ -58,7 +72,7 @@ impl Backward {
         opening.low() + opening.size() - 1 - self.passed
     }
 
-    /// Appends what was held, which ends the reply. The cost is that of a copy.
+    /// Appends what was held, once the window is read. The cost is that of a copy.
     fn release(&mut self, out: &mut Vec<u8>) -> Result<bool, NoMemory>
         ensures state { IfOk result (λ _. self.new ≡ (released self.old).state) }
         ensures put { IfOk result (λ _. out.new.items ≡ out.old.items ++ (released self.old).put) }
@@ -71,7 +85,7 @@ impl Backward {
         Ok(true)
     }
 
-    /// A record was read: its event is held where it passes. Tells whether the reply has ended.
+    /// A record was read: its event is held where it passes. Tells whether the window is read.
     #[tactic(auto, using(crate::proofs::Bytes::front_same, crate::proofs::Bytes::front_more))]
     pub(crate) fn read(
         &mut self,
@@ -99,14 +113,14 @@ impl Backward {
             self.flows = flows;
         }
         self.passed += 1;
-        if opening.is_done(self.passed, self.flows) {
+        if self.is_over(opening) {
             return self.release(out);
         }
         Ok(false)
     }
 
     /// Each position that is left was found overwritten: their lost event stands before what is held, and
-    /// the reply has ended.
+    /// the window is read.
     #[tactic(auto, using(crate::proofs::Bytes::front_same, crate::proofs::Bytes::front_more))]
     pub(crate) fn gone(
         &mut self,

@@ -1,6 +1,6 @@
 //! The events that a session reads, which of them it gives, and those that it makes.
 ghost use Rattle.std.specs.Prelude.{◌≡◌, IfOk};
-ghost use Rattle.hb_session.specs.Events.{event_of_record, lost_event, not_after, is_within, passes, is_flow};
+ghost use Rattle.hb_session.specs.Events.{event_of_record, lost_event, not_after, is_within, passes, is_too_late, is_flow};
 
 use crate::Loss;
 use hb_api::GetFlowsRequest;
@@ -68,6 +68,18 @@ pub(crate) fn passes(request: &GetFlowsRequest, event: &Event) -> bool
     match event {
         Event::Flow(flow) => is_within(request, flow.time.unwrap_or(Stamp { secs: 0, nanos: 0 })),
         Event::Lost(_) => true,
+    }
+}
+
+/// Whether an event is a flow that is stamped after the last moment that is asked for.
+pub(crate) fn is_too_late(request: &GetFlowsRequest, event: &Event) -> bool
+    ensures { result ≡ is_too_late request.now event.now }
+{
+    match (event, request.until) {
+        (Event::Flow(flow), Some(until)) => {
+            !not_after(flow.time.unwrap_or(Stamp { secs: 0, nanos: 0 }), until)
+        }
+        _ => false,
     }
 }
 

@@ -1,20 +1,23 @@
-//! A window that is read forwards.
+//! A span that is read forwards.
 ghost use Rattle.std.specs.Prelude.{◌≡◌, ◌<◌, ◌≤◌, ◌+◌, ◌++◌, length, take, IfOk, OnErr, IfSome};
+ghost use Rattle.std.specs.Option.{ForSome};
 ghost use Rattle.hb_look.specs.Limits.{most_records};
 ghost use Rattle.hb_session.specs.Replies.{FitsFrame};
-ghost use Rattle.hb_session.specs.Steps.{forward_unread, forward_place, forward_read, forward_gone};
+ghost use Rattle.hb_session.specs.Steps.{forward_unread, is_at_end, forward_is_over, forward_read, forward_gone};
 
 use crate::event::is_flow;
 use crate::opening::Opening;
+use crate::span::Span;
 use crate::{Counts, Loss};
 use hb_flow::Event;
 use hb_wire::NoMemory;
 use std::marker::Model;
 
-/// What is known of a window that is read from its start on.
+/// What is known of a span that is read from its start on.
 #[derive(Drop)]
 pub(crate) struct Forward {
-    passed: u64,
+    place: u64,
+    end: Option<u64>,
     flows: u64,
     loss: Option<Loss>,
     counts: Counts,
@@ -22,28 +25,35 @@ pub(crate) struct Forward {
 
 impl Model for Forward {
     ghost use Rattle.std.specs.Prelude.{◌+◌, ◌≤◌};
+    ghost use Rattle.std.specs.Option.{ForSome};
+    ghost use Rattle.hb_look.specs.Limits.{most_records};
     ghost use Rattle.hb_session.specs.Steps.{Forward, loss_count};
 
     ghost Value = { Forward };
 
     ghost view = { λ f. record {
-      passed = f.passed;
+      place = f.place;
+      end = f.end;
       flows = f.flows;
       loss = f.loss;
       counts = f.counts;
     } };
 
-    ghost invariant = { λ f. (f.flows ≤ f.passed) × (loss_count f.loss ≤ f.passed)
-        × (f.counts.given + f.counts.skipped + f.counts.lost ≤ f.passed) };
+    ghost invariant = { λ f. (f.place ≤ most_records) × ForSome f.end (λ e. e ≤ most_records)
+        × (f.flows ≤ f.place) × (loss_count f.loss ≤ f.place)
+        × (f.counts.given + f.counts.skipped + f.counts.lost ≤ f.place) };
 }
 
 impl Forward {
     /// Nothing was read yet.
-    pub(crate) fn new() -> Forward
-        ensures { result ≡ forward_unread }
+    pub(crate) fn new(span: Span) -> Forward
+        requires start { span.start ≤ most_records }
+        requires end { ForSome span.end (λ e. e ≤ most_records) }
+        ensures { result ≡ forward_unread span }
     {
         Forward {
-            passed: 0,
+            place: span.start,
+            end: span.end,
             flows: 0,
             loss: None,
             counts: Counts {
@@ -54,7 +64,7 @@ impl Forward {
         }
     }
 
-    /// How the window was read so far.
+    /// How the span was read so far.
     pub(crate) fn counts(&self) -> Counts
         ensures { result ≡ self.now.counts }
     {
@@ -62,16 +72,31 @@ impl Forward {
     }
 
     /// The position that is looked at next.
-    pub(crate) fn place(&self, opening: &Opening) -> u64
-        requires going { self.now.passed < opening.now.size }
-        ensures place { result ≡ forward_place opening.now self.now }
-        ensures bound { (result ≤ most_records)
-            × (opening.now.low + opening.now.size ≤ most_records) }
+    pub(crate) fn place(&self) -> u64
+        ensures place { result ≡ self.now.place }
+        ensures bound { result ≤ most_records }
     {
-        opening.low() + self.passed
+        self.place
     }
 
-    /// A record was read: it ends a stretch. Tells whether the reply has ended. At `Err` it is as it was.
+    /// Whether the end is reached.
+    pub(crate) fn is_at_end(&self) -> bool
+        ensures { result ≡ is_at_end self.now }
+    {
+        match self.end {
+            Some(end) => self.place == end,
+            None => false,
+        }
+    }
+
+    /// Whether nothing more is to be read, where an event came that is too late, or none.
+    fn is_over(&self, opening: &Opening, late: bool) -> bool
+        ensures { result ≡ forward_is_over opening.now self.now late }
+    {
+        self.is_at_end() || opening.are_given(self.flows) || late
+    }
+
+    /// A record was read: it ends a stretch. Tells whether the span is read. At `Err` it is as it was.
     #[tactic(auto, using(crate::proofs::Bytes::front_same, crate::proofs::Bytes::front_more))]
     pub(crate) fn read(
         &mut self,
@@ -79,8 +104,7 @@ impl Forward {
         event: Option<Event>,
         out: &mut Vec<u8>,
     ) -> Result<bool, NoMemory>
-        requires going { self.old.passed < opening.old.size }
-        requires window { opening.old.size ≤ most_records }
+        requires place { self.old.place < most_records }
         requires size { IfSome event (FitsFrame opening.old.name) }
         ensures state { IfOk result (λ _. self.new
             ≡ (forward_read opening.old self.old event).state) }
@@ -93,6 +117,7 @@ impl Forward {
         ensures stays { opening.new ≡ opening.old }
     {
         opening.put_loss(self.loss, out)?;
+        let late = self.end.is_none() && opening.is_late(self.place, &event);
         if let Some(event) = event
             && opening.passes(&event)
         {
@@ -103,13 +128,13 @@ impl Forward {
         } else {
             self.counts.skipped += 1;
         }
-        self.passed += 1;
+        self.place += 1;
         self.loss = None;
-        Ok(opening.is_done(self.passed, self.flows))
+        Ok(self.is_over(opening, late))
     }
 
     /// The next position was found overwritten, and so was each one before `next`. Tells whether the
-    /// reply has ended. At `Err` it is as it was.
+    /// span is read.
     #[tactic(auto, using(crate::proofs::Bytes::front_same, crate::proofs::Bytes::front_more))]
     pub(crate) fn gone(
         &mut self,
@@ -118,34 +143,38 @@ impl Forward {
         moment: u64,
         out: &mut Vec<u8>,
     ) -> Result<bool, NoMemory>
-        requires going { self.old.passed < opening.old.size }
-        requires next { forward_place opening.old self.old < next }
+        requires going { ForSome self.old.end (λ e. self.old.place < e) }
+        requires next { (self.old.place < next) × (next ≤ most_records) }
         ensures state { IfOk result (λ _. self.new
             ≡ (forward_gone opening.old self.old next moment).state) }
         ensures put { IfOk result (λ _. out.new.items
             ≡ out.old.items ++ (forward_gone opening.old self.old next moment).put) }
         ensures ended { IfOk result (λ ended. ended
             ≡ (forward_gone opening.old self.old next moment).ended) }
-        ensures err { OnErr result (self.new ≡ self.old) }
         ensures front { OnErr result (take (length out.old.items) out.new.items ≡ out.old.items) }
+        ensures err { OnErr result (self.new.counts
+            ≡ (forward_gone opening.old self.old next moment).state.counts) }
         ensures stays { opening.new ≡ opening.old }
     {
-        let lost = (next - self.place(opening)).min(opening.size() - self.passed);
+        let place = match self.end {
+            Some(end) => next.min(end),
+            None => next,
+        };
+        let lost = place - self.place;
         let before = match self.loss {
             Some(loss) => loss.count,
             None => 0,
         };
-        let loss = Some(Loss {
+        self.place = place;
+        self.loss = Some(Loss {
             count: before + lost,
             moment,
         });
-        let ended = opening.is_done(self.passed + lost, self.flows);
-        if ended {
-            opening.put_loss(loss, out)?;
-        }
-        self.passed += lost;
-        self.loss = loss;
         self.counts.lost += lost;
+        let ended = self.is_over(opening, false);
+        if ended {
+            opening.put_loss(self.loss, out)?;
+        }
         Ok(ended)
     }
 }

@@ -1,5 +1,5 @@
 //! The laws of what a client is owed.
-ghost use Rattle.std.specs.Prelude.{◌≡◌, ◌+◌, ◌<◌, ◌≤◌, ℕ, List, ◌++◌, length, take, slice_get, Some, IfSome};
+ghost use Rattle.std.specs.Prelude.{◌≡◌, ◌+◌, ◌<◌, ◌≤◌, ℕ, List, ◌++◌, length, take, slice_get, Some, IfSome, false};
 ghost use Rattle.std.specs.List.{All, AllByRecursion};
 ghost use Rattle.hb_api.specs.Limits.{longest_name};
 ghost use Rattle.hb_look.specs.Limits.{longest_record};
@@ -8,7 +8,7 @@ ghost use Rattle.hb_look.specs.Looks.{Found, Got, LookMade, after};
 ghost use Rattle.hb_session.specs.Events.{event_of_record, lost_event};
 ghost use Rattle.hb_session.specs.Openings.{Opening};
 ghost use Rattle.hb_session.specs.Replies.{FitsFrame, owed, spelled, AreMade};
-ghost use Rattle.hb_session.specs.Sessions.{TurnMade, HasMoved, all_looks, all_bytes};
+ghost use Rattle.hb_session.specs.Sessions.{TurnMade, HasGoneOn, all_looks, all_bytes};
 ghost use Rattle.hb_session.specs.Window.{window_start};
 
 /// Among the looks that a session makes, what is owed only grows: the frames that were owed before some
@@ -21,13 +21,14 @@ pub fn owed_only_grows()
         ≡ spelled (owed o looks) }
 {}
 
-/// Turns each of which made a look that leads on, or handed on a byte, are few: no more than the window
-/// has positions and the reply bytes.
+/// Turns for a reply that does not follow, each of which made a look that leads on, or handed on a byte,
+/// are few: no more than the window has positions and the reply bytes.
 pub fn turns_are_few()
-    ensures few { (o : Opening) (turns : List TurnMade) → AreMade o (all_looks turns)
+    ensures few { (o : Opening) (turns : List TurnMade) → o.request.follow ≡ false
+        → AreMade o (all_looks turns)
         → All (λ look. look.position < after look) (all_looks turns)
         → length (all_bytes turns) ≤ length (spelled (owed o (all_looks turns)))
-        → AllByRecursion HasMoved turns
+        → AllByRecursion HasGoneOn turns
         → length turns ≤ o.size + length (spelled (owed o (all_looks turns))) }
 {}
 

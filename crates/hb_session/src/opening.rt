@@ -1,14 +1,17 @@
 //! What a reply was opened with.
-ghost use Rattle.std.specs.Prelude.{◌≡◌, ◌+◌, ◌≤◌, ◌∷◌, [], ◌++◌, length, reverse, IfOk, IfSome, OnOk, OnErr};
+ghost use Rattle.std.specs.Prelude.{◌≡◌, ◌+◌, ◌≤◌, ◌∷◌, [], ◌++◌, length, reverse, None, IfOk, IfSome, OnOk, OnErr};
+ghost use Rattle.std.specs.Option.{ForSome};
 ghost use Rattle.hb_api.specs.Limits.{longest_name};
 ghost use Rattle.hb_look.specs.Limits.{longest_record, most_records};
-ghost use Rattle.hb_session.specs.Openings.{is_backward, are_enough};
+ghost use Rattle.hb_session.specs.Openings.{top, is_backward, are_enough, forward_start, forward_end};
+ghost use Rattle.hb_session.specs.Forward.{are_given, is_late};
 ghost use Rattle.hb_session.specs.Events.{event_of_record, passes, lost_event};
 ghost use Rattle.hb_session.specs.Replies.{FitsFrame};
-ghost use Rattle.hb_session.specs.Steps.{bytes_of, is_done, loss_events};
+ghost use Rattle.hb_session.specs.Steps.{bytes_of, loss_events};
 
 use crate::Loss;
-use crate::event::{lost_event, passes, read_event};
+use crate::event::{is_too_late, lost_event, passes, read_event};
+use crate::span::Span;
 use crate::writer::Writer;
 use hb_api::GetFlowsRequest;
 use hb_flow::Event;
@@ -97,11 +100,71 @@ impl Opening {
         passes(&self.request, event)
     }
 
-    /// Whether the window is read, or there are as many flows as were asked for.
-    pub(crate) fn is_done(&self, passed: u64, flows: u64) -> bool
-        ensures { result ≡ is_done self.now passed flows }
+    /// Whether so many flows are as many as were asked for.
+    pub(crate) fn are_enough(&self, flows: u64) -> bool
+        ensures { result ≡ are_enough self.now.request flows }
     {
-        passed == self.size || self.request.number > 0 && self.request.number <= flows
+        self.request.number > 0 && self.request.number <= flows
+    }
+
+    /// Whether these are as many of the first flows as were asked for.
+    pub(crate) fn are_given(&self, flows: u64) -> bool
+        ensures { result ≡ are_given self.now.request flows }
+    {
+        self.request.first && self.are_enough(flows)
+    }
+
+    /// Whether the reply goes on behind the window.
+    pub(crate) fn follows(&self) -> bool
+        ensures { result ≡ self.now.request.follow }
+    {
+        self.request.follow
+    }
+
+    /// What is read forwards, where the window is not read backwards.
+    pub(crate) fn span(&self) -> Span
+        ensures start { result.start ≡ forward_start self.now }
+        ensures end { result.end ≡ forward_end self.now }
+        ensures bounds { (result.start ≤ most_records)
+            × ForSome result.end (λ e. e ≤ most_records) }
+    {
+        let top = self.low + self.size;
+        if !self.request.follow {
+            return Span {
+                start: self.low,
+                end: Some(top),
+            };
+        }
+        Span {
+            start: if self.request.since.is_none() {
+                top
+            } else {
+                self.low
+            },
+            end: None,
+        }
+    }
+
+    /// What is behind the window.
+    pub(crate) fn behind(&self) -> Span
+        ensures span { result ≡ record { start = top self.now; end = None } }
+        ensures bound { result.start ≤ most_records }
+    {
+        Span {
+            start: self.low + self.size,
+            end: None,
+        }
+    }
+
+    /// Whether a record holds a flow behind the window that is stamped after the last moment that is
+    /// asked for.
+    pub(crate) fn is_late(&self, place: u64, event: &Option<Event>) -> bool
+        ensures { result ≡ is_late self.now place event.now }
+    {
+        match event {
+            Some(event) => place >= self.low + self.size && is_too_late(&self.request, event),
+            None => false,
+        }
     }
 
     /// The event whose record these bytes are.

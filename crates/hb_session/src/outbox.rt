@@ -2,7 +2,7 @@
 ghost use Rattle.std.specs.Prelude.{◌≡◌, ◌⊎◌, ◌<◌, ◌≤◌, ◌++◌, [], length, drop};
 ghost use Rattle.std.specs.Option.{ForSome};
 ghost use Rattle.hb_edge.specs.Causes.{Rose};
-ghost use Rattle.hb_edge.specs.Link.{WrittenWithin, HasWritten, taken_of};
+ghost use Rattle.hb_edge.specs.Link.{WrittenWithin, HasMoved, Write, moved_of};
 
 use hb_edge::{Link, Moved};
 use std::alloc::Global;
@@ -50,16 +50,16 @@ impl Outbox {
     pub(crate) fn send<L: Link>(&mut self, link: &mut L) -> Moved
         requires waits { 0 < length self.old }
         ensures within { WrittenWithin result (length self.old) }
-        ensures rest { self.old ≡ taken_of self.old result ++ self.new }
-        ensures written { HasWritten L.shown L.held L.write_after L.fixed link.old link.new
-            (taken_of self.old result) }
+        ensures rest { self.old ≡ moved_of self.old result ++ self.new }
+        ensures moved { HasMoved L.shown L.held L.after L.fixed link.old link.new
+            [] (moved_of self.old result) }
         ensures cause { result ≡ Moved.Failed
             → Rose (L.shown link.old).faults (L.shown link.new).faults }
         ensures waits { result ≡ Moved.NotYet
             → Rose (L.shown link.old).write_waits (L.shown link.new).write_waits }
         ensures exact { ForSome (L.held link.old) (λ _.
-            ((result ≡ L.write_answer link.old self.old)
-            × (link.new ≡ L.write_after link.old self.old))
+            ((result ≡ L.answer link.old (Write self.old))
+            × (link.new ≡ L.after link.old (Write self.old)))
             ⊎ ((result ≡ Moved.Failed)
             × Rose (L.shown link.old).refusals (L.shown link.new).refusals)) }
     {

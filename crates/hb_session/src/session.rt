@@ -1,23 +1,28 @@
 //! One reply of a node, handed to a link turn by turn.
-ghost use Rattle.std.specs.Prelude.{◌≡◌, ◌≢◌, ◌↔◌, ◌⊎◌, ◌+◌, ◌<◌, ◌≤◌, [], length, max, Option, Some, None, IfOk, IfErr, true};
+ghost use Rattle.std.specs.Prelude.{◌≡◌, ◌≢◌, ◌↔◌, ◌⊎◌, ◌<◌, ◌≤◌, [], length, max, Some, None, IfOk, IfErr, true, false};
 ghost use Rattle.std.specs.Option.{ForSome};
 ghost use Rattle.hb_edge.specs.Causes.{Rose};
-ghost use Rattle.hb_edge.specs.Link.{HasWritten};
+ghost use Rattle.hb_edge.specs.declared.link.Moved.{Moved};
+ghost use Rattle.hb_edge.specs.Link.{HasMoved, Write};
 ghost use Rattle.hb_api.specs.Limits.{longest_name};
 ghost use Rattle.hb_look.specs.Limits.{largest_capacity, most_records};
 ghost use Rattle.hb_look.specs.Looks.{added};
 ghost use Rattle.hb_look.specs.Progress.{HasLooked};
-ghost use Rattle.hb_session.specs.Openings.{opened};
+ghost use Rattle.hb_session.specs.Openings.{opened, top};
 ghost use Rattle.hb_session.specs.Refusals.{Status, refusal};
 ghost use Rattle.hb_session.specs.Stands.{counts_of};
-ghost use Rattle.hb_session.specs.Works.{IsOneLook};
-ghost use Rattle.hb_session.specs.Sessions.{SessionStandsFor, HaveTurned, HasDone, IsNearer, IsAnswerTo, HasMoved, gained, ended_by};
+ghost use Rattle.hb_session.specs.Works.{IsOneLook, HasLed, HasWaited};
+ghost use Rattle.hb_session.specs.Clients.{HasHeard, IsHeardOf, heard_of, fed, Stops, is_for_client, IsInputAfter, IsStopped};
+ghost use Rattle.hb_session.specs.Sessions.{SessionStandsFor, HaveTurned, HasDone, IsNearer, IsAnswerTo, IsWrittenOf, heard_by, gained, ended_by};
 
+use crate::inbox::Inbox;
 use crate::outbox::Outbox;
+use crate::refusal::check;
 use crate::source::{Source, Worked};
 use crate::{Counts, OpenFault, Turn};
 use hb_api::GetFlowsRequest;
 use hb_edge::{Link, Moved};
+use hb_frame::FrameReader;
 use hb_look::Look;
 use std::alloc::Global;
 use std::marker::Model;
@@ -27,6 +32,7 @@ use std::marker::Model;
 pub struct NodeSession {
     source: Source,
     outbox: Outbox,
+    inbox: Inbox,
     sent: u64,
     moment: u64,
     answer: Option<Turn>,
@@ -44,6 +50,7 @@ impl Model for NodeSession {
       waiting = s.outbox;
       sent = s.sent;
       moment = s.moment;
+      heard = s.inbox;
       answer = s.answer;
     } };
 
@@ -73,8 +80,12 @@ impl NodeSession {
             ⊎ ((status : Status) × (refusal request.now ≡ Some status)
             × (fault ≡ OpenFault.BadRequest status.code status.text))) }
     {
+        check(alloc, request)?;
         let size = top.min(cap);
         let mut outbox = Outbox::new(alloc);
+        let Ok(inbox) = Inbox::new(alloc) else {
+            return Err(OpenFault::NoMemory);
+        };
         let Ok(source) = Source::open(alloc, request, name, top - size, size, &mut outbox.bytes)
         else {
             return Err(OpenFault::NoMemory);
@@ -82,68 +93,87 @@ impl NodeSession {
         Ok(NodeSession {
             source,
             outbox,
+            inbox,
             sent: 0,
             moment: 0,
             answer: None,
         })
     }
 
-    /// Makes one write of bytes that wait or, where none waits, one look. The look's moment is the
-    /// greatest that was told, in nanoseconds since 1970-01-01T00:00:00Z. The cost is that of the
-    /// record or of the write, but for the look that ends a reply which is read backwards: it copies
-    /// the reply once.
-    pub fn turn<R: Look, L: Link>(&mut self, reader: &mut R, link: &mut L, now: u64) -> Turn
-        requires seen { self.old.source.opening.low + self.old.source.opening.size
-            ≤ (R.reader reader.old).finished.count }
+    /// Reads from the link once, unless the client's bytes have ended, and feeds what it gave to
+    /// `input`; a frame of the client ends the session. Then it makes one write of bytes that wait or,
+    /// where none waits, one look. The look's moment is the greatest that was told, in nanoseconds since
+    /// 1970-01-01T00:00:00Z. The cost is that of the read and of the record or the write, but for the
+    /// look that ends a window which is read backwards: it copies what it gives once.
+    pub fn turn<R: Look, L: Link>(
+        &mut self,
+        reader: &mut R,
+        input: &mut FrameReader,
+        link: &mut L,
+        now: u64,
+    ) -> Turn
+        requires seen { top self.old.source.opening ≤ (R.reader reader.old).finished.count }
         ensures turned { HaveTurned self.old self.new
             (added (R.reader reader.old).looks (R.reader reader.new).looks)
             (gained self.old self.new)
             × (self.old.source.opening.size ≤ largest_capacity) }
 
-        // What becomes of the reader and the link: one call on one of them.
+        // What becomes of the client's bytes, the reader and the link.
+        ensures heard { self.old.answer ≡ None
+            → HasHeard self.old.heard self.new.heard (L.shown link.old) (L.shown link.new)
+            × IsInputAfter input.old input.new self.new.heard.piece result }
         ensures looked { HasLooked R.reader R.tells R.fixed reader.old reader.new
-            × IsOneLook (R.reader reader.old) (R.reader reader.new) self.new.moment }
-        ensures sent { HasWritten L.shown L.held L.write_after L.fixed link.old link.new
-            (gained self.old self.new) }
-        ensures alone { (0 < length self.old.waiting → reader.new ≡ reader.old)
-            × (self.old.waiting ≡ [] → link.new ≡ link.old) }
-        ensures exact { self.old.answer ≡ None → 0 < length self.old.waiting
-            → ForSome (L.held link.old) (λ _.
-            (IsAnswerTo self.old (L.write_answer link.old self.old.waiting) result
-            × (link.new ≡ L.write_after link.old self.old.waiting))
-            ⊎ ((result ≡ Turn.LinkFault)
-            × Rose (L.shown link.old).refusals (L.shown link.new).refusals)) }
+            × IsOneLook (R.reader reader.old) (R.reader reader.new) self.new.moment
+            self.old.source.opening.request.follow }
+        ensures moved { HasMoved L.shown L.held L.after L.fixed link.old link.new
+            (heard_by self.old.answer self.new.heard.piece) (gained self.old self.new) }
+        ensures alone { (0 < length self.old.waiting) ⊎ IsStopped self.new.heard result
+            → reader.new ≡ reader.old }
+        ensures exact { self.old.answer ≡ None → ForSome (L.held link.old) (λ h.
+            IsHeardOf L.answer link.old h self.old.heard self.new.heard
+            × IsWrittenOf L.answer L.after self.old self.new.heard result
+            (heard_of L.after self.old.heard.last link.old) link.new
+            (L.shown link.old).refusals (L.shown link.new).refusals) }
 
         // What it answers, and when.
-        ensures more { result ≡ Turn.More → IsNearer self.old self.new
-            × HasMoved (record {
-              looks = added (R.reader reader.old).looks (R.reader reader.new).looks;
-              bytes = gained self.old self.new;
-            }) }
-        ensures idle { self.old.answer ≡ None → result ≡ Turn.Idle
-            → (0 < length self.old.waiting) × (self.new.waiting ≡ self.old.waiting)
-            × (self.new.source ≡ self.old.source)
-            × Rose (L.shown link.old).write_waits (L.shown link.new).write_waits }
+        ensures stopped { self.old.answer ≡ None → result ≢ Turn.NoMemory
+            → self.new.heard.last ≢ Moved.Failed → (answer : Turn) → is_for_client answer ≡ true
+            → (result ≡ answer)
+            ↔ Stops (fed input.old self.new.heard.piece) self.new.heard.last answer }
+        ensures more { result ≡ Turn.More
+            → (self.old.source.opening.request.follow ≡ false → IsNearer self.old self.new)
+            × ((0 < length (gained self.old self.new))
+            ⊎ HasLed (added (R.reader reader.old).looks (R.reader reader.new).looks)) }
+        ensures causes { self.old.answer ≡ None
+            → (result ≡ Turn.Idle → ((0 < length self.old.waiting)
+            × (self.new.waiting ≡ self.old.waiting) × (self.new.source ≡ self.old.source)
+            × Rose (L.shown link.old).write_waits (L.shown link.new).write_waits)
+            ⊎ ((self.old.source.opening.request.follow ≡ true)
+            × HasWaited (added (R.reader reader.old).looks (R.reader reader.new).looks)))
+            × (result ≡ Turn.LinkFault
+            → ((0 < length self.old.waiting) ⊎ (self.new.heard.last ≡ Moved.Failed))
+            × Rose (L.shown link.old).faults (L.shown link.new).faults)
+            × (self.new.heard.last ≡ Moved.Failed → result ≡ Turn.LinkFault) }
         ensures done { HasDone self.old result
             (added (R.reader reader.old).looks (R.reader reader.new).looks)
             (gained self.old self.new) }
-        ensures link_fault { self.old.answer ≡ None → result ≡ Turn.LinkFault
-            → (0 < length self.old.waiting)
-            × Rose (L.shown link.old).faults (L.shown link.new).faults }
-        ensures spent { self.old.answer ≡ None → (result ≡ Turn.Spent)
+        ensures spent { self.old.answer ≡ None → result ≢ Turn.NoMemory → (result ≡ Turn.Spent)
             ↔ ((length (R.reader reader.old).looks ≡ most_records)
-            × (self.old.waiting ≡ [])) }
-        ensures no_memory { self.old.answer ≡ None → result ≡ Turn.NoMemory
-            → self.old.waiting ≡ [] }
+            × (self.old.waiting ≡ []) × (IsStopped self.new.heard result → ⊥)) }
         ensures ended { (self.new.answer ≡ ended_by result)
             × (self.old.answer ≡ None → self.new.moment ≡ max self.old.moment now) }
         ensures repeats { (answer : Turn) → self.old.answer ≡ Some answer → (result ≡ answer)
-            × (self.new ≡ self.old) × (reader.new ≡ reader.old) × (link.new ≡ link.old) }
+            × (self.new ≡ self.old) × (reader.new ≡ reader.old) × (input.new ≡ input.old)
+            × (link.new ≡ link.old) }
     {
         if let Some(answer) = self.answer {
             return answer;
         }
         self.moment = self.moment.max(now);
+        if let Some(answer) = self.inbox.hear(input, link) {
+            self.answer = answer.ending();
+            return answer;
+        }
         if self.outbox.waiting().is_empty() {
             return self.look_on(reader);
         }
@@ -174,26 +204,32 @@ impl NodeSession {
     /// Makes the next look, and puts what becomes owed by it.
     fn look_on<R: Look>(&mut self, reader: &mut R) -> Turn
         requires going { (self.old.answer ≡ None) × (self.old.waiting ≡ []) }
-        requires seen { self.old.source.opening.low + self.old.source.opening.size
-            ≤ (R.reader reader.old).finished.count }
+        requires seen { top self.old.source.opening ≤ (R.reader reader.old).finished.count }
         ensures turned { HaveTurned self.old self.new
             (added (R.reader reader.old).looks (R.reader reader.new).looks) [] }
         ensures looked { HasLooked R.reader R.tells R.fixed reader.old reader.new
-            × IsOneLook (R.reader reader.old) (R.reader reader.new) self.old.moment }
-        ensures more { result ≡ Turn.More → IsNearer self.old self.new
-            × (length (added (R.reader reader.old).looks (R.reader reader.new).looks) ≡ 1) }
+            × IsOneLook (R.reader reader.old) (R.reader reader.new) self.old.moment
+            self.old.source.opening.request.follow }
+        ensures more { result ≡ Turn.More
+            → (self.old.source.opening.request.follow ≡ false → IsNearer self.old self.new)
+            × HasLed (added (R.reader reader.old).looks (R.reader reader.new).looks) }
+        ensures idle { result ≡ Turn.Idle → (self.old.source.opening.request.follow ≡ true)
+            × HasWaited (added (R.reader reader.old).looks (R.reader reader.new).looks) }
         ensures spent { (result ≡ Turn.Spent)
             ↔ (length (R.reader reader.old).looks ≡ most_records) }
-        ensures answers { (result ≢ Turn.Idle) × (result ≢ Turn.Done) × (result ≢ Turn.LinkFault) }
+        ensures answers { (result ≢ Turn.Done) × (result ≢ Turn.LinkFault)
+            × (is_for_client result ≡ false) }
         ensures going { result ≢ Turn.NoMemory → self.new.source.ended ≡ true
             → 0 < length self.new.waiting }
-        ensures ended { (self.new.answer ≡ ended_by result) × (self.new.moment ≡ self.old.moment) }
+        ensures ended { (self.new.answer ≡ ended_by result) × (self.new.moment ≡ self.old.moment)
+            × (self.new.heard ≡ self.old.heard) }
     {
         let worked = self
             .source
             .work(reader, self.moment, &mut self.outbox.bytes);
         let answer = match worked {
             Worked::More => Turn::More,
+            Worked::Idle => Turn::Idle,
             Worked::Spent => Turn::Spent,
             Worked::NoMemory => Turn::NoMemory,
         };
@@ -205,11 +241,11 @@ impl NodeSession {
     fn send_on<L: Link>(&mut self, link: &mut L) -> Turn
         requires going { (self.old.answer ≡ None) × (0 < length self.old.waiting) }
         ensures turned { HaveTurned self.old self.new [] (gained self.old self.new) }
-        ensures sent { HasWritten L.shown L.held L.write_after L.fixed link.old link.new
-            (gained self.old self.new) }
+        ensures moved { HasMoved L.shown L.held L.after L.fixed link.old link.new
+            [] (gained self.old self.new) }
         ensures exact { ForSome (L.held link.old) (λ _.
-            (IsAnswerTo self.old (L.write_answer link.old self.old.waiting) result
-            × (link.new ≡ L.write_after link.old self.old.waiting))
+            (IsAnswerTo self.old (L.answer link.old (Write self.old.waiting)) result
+            × (link.new ≡ L.after link.old (Write self.old.waiting)))
             ⊎ ((result ≡ Turn.LinkFault)
             × Rose (L.shown link.old).refusals (L.shown link.new).refusals)) }
         ensures more { result ≡ Turn.More → IsNearer self.old self.new
@@ -220,9 +256,11 @@ impl NodeSession {
             ↔ ((self.new.source.ended ≡ true) × (self.new.waiting ≡ [])) }
         ensures fault { result ≡ Turn.LinkFault
             → Rose (L.shown link.old).faults (L.shown link.new).faults }
-        ensures answers { (result ≢ Turn.Spent) × (result ≢ Turn.NoMemory) }
+        ensures answers { (result ≢ Turn.Spent) × (result ≢ Turn.NoMemory)
+            × (is_for_client result ≡ false) }
         ensures source { self.new.source ≡ self.old.source }
-        ensures ended { (self.new.answer ≡ ended_by result) × (self.new.moment ≡ self.old.moment) }
+        ensures ended { (self.new.answer ≡ ended_by result) × (self.new.moment ≡ self.old.moment)
+            × (self.new.heard ≡ self.old.heard) }
     {
         let moved = self.outbox.send(link);
         let answer = match moved {

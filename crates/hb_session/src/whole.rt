@@ -12,6 +12,7 @@ ghost use Rattle.hb_session.specs.Whole.{IsReply, HasEvents, GivesFirst, GivesLa
 use crate::{NodeSession, Turn, finish};
 use hb_api::GetFlowsRequest;
 use hb_edge::MemLink;
+use hb_frame::FrameReader;
 use hb_look::Look;
 use hb_wire::NoMemory;
 use std::alloc::Global;
@@ -32,6 +33,7 @@ pub fn reply_of<R: Look>(
 ) -> Result<MemLink, NoMemory>
     requires fresh { (R.reader reader.old).looks ≡ [] }
     requires name { length name.now ≤ longest_name }
+    requires ends { request.now.follow ≡ false }
     ensures ok { IfOk result (λ link. (log : List (List ℕ)) → R.tells reader.old log
         → IsReply (opened request.now name.now (length log) (R.reader reader.old).capacity)
         (R.reader reader.old).capacity log link.taken) }
@@ -44,10 +46,15 @@ pub fn reply_of<R: Look>(
     let Ok(mut link) = MemLink::new(alloc, LINK) else {
         return Err(NoMemory);
     };
-    match finish(&mut session, reader, &mut link, MOMENT) {
+    // The client is silent.
+    link.end();
+    let Ok(mut input) = FrameReader::new(alloc) else {
+        return Err(NoMemory);
+    };
+    match finish(&mut session, reader, &mut input, &mut link, MOMENT) {
         Turn::Done => Ok(link),
         Turn::NoMemory => Err(NoMemory),
-        Turn::LinkFault | Turn::Spent | Turn::Idle | Turn::More => {
+        _ => {
             // This link fails for no other cause and makes no write wait, and no look is refused.
             prove!(link.starved());
             Err(NoMemory)

@@ -1,177 +1,61 @@
-//! A ring, a session of its node and a link, moved by words.
-ghost use Rattle.std.specs.Prelude.{◌+◌, ◌≤◌, IfSome, IfOk};
-ghost use Rattle.hb_look.specs.Limits.{IsCapacity};
-ghost use Rattle.hb_listring.specs.Log.{HasLimits};
-
-use super::words::{parted, request_of, spelled};
-use crate::{Counts, NodeSession, Turn, finish, reply_of};
-use hb_cases::{Row, number};
+//! A session and its client, moved by words.
+use super::seat::{Client, Seat};
+use super::words::parted;
+use crate::{Counts, Turn};
+use hb_cases::{Row, bytes, number};
 use hb_edge::{Link, MemLink};
-use hb_listring::{ListEye, ListReader, ListRing};
-use hb_look::{Keep, Look, Put};
+use hb_frame::{FrameReader, Next};
 use std::alloc::Global;
 use std::process::Abort;
 use std::test::Fail;
 
-const SLOT: usize = 64;
-
 const SECOND: u64 = 1_000_000_000;
 
-/// A capacity of a ring.
-fn capacity_of(text: &str) -> Option<u64>
-    ensures { IfSome result IsCapacity }
-{
-    match text {
-        "1" => Some(1),
-        "3" => Some(3),
-        "7" => Some(7),
-        _ => None,
-    }
-}
-
-fn put(ring: &mut ListRing, record: &[u8]) -> Result<(), Fail>
-    ensures grows { ring.old.written ≤ ring.new.written }
-    ensures limits { HasLimits ring.old → HasLimits ring.new }
-{
-    match ring.put(record) {
-        Put::Done => Ok(()),
-        answer => Err(Fail::new(format_args!("a record is put: {answer:?}"))),
-    }
-}
-
-/// Puts a record so many times.
-fn put_times(ring: &mut ListRing, record: &[u8], times: u8) -> Result<(), Fail>
-    ensures grows { ring.old.written ≤ ring.new.written }
-    ensures limits { HasLimits ring.old → HasLimits ring.new }
-{
-    for _ in 0..times {
-        put(ring, record)?;
-    }
-    Ok(())
-}
-
-/// Puts the records of these words, in order: of `9*3` three times.
-fn put_all(ring: &mut ListRing, alloc: Global, words: &str) -> Result<(), Fail>
-    ensures grows { ring.old.written ≤ ring.new.written }
-    ensures limits { HasLimits ring.old → HasLimits ring.new }
-{
-    for word in words.split_whitespace() {
-        let (word, times) = word.split_once('*').unwrap_or((word, "1"));
-        put_times(ring, &spelled(alloc, word, 1)?, number(times)?)?;
-    }
-    Ok(())
-}
-
-/// The ring of the first two cells of a case: its capacity, and what was put into it.
-fn ring_of(alloc: Global, row: Row<'_>) -> Result<ListRing, Fail>
-    ensures { IfOk result HasLimits }
-{
-    let capacity = capacity_of(row.cell(0)).ok_or("a capacity")?;
-    let mut ring = ListRing::open(alloc, capacity, SLOT)?;
-    put_all(&mut ring, alloc, row.cell(1))?;
-    Ok(ring)
-}
-
-/// The whole reply of the ring of a case to what is asked.
-pub(crate) fn replied(alloc: Global, row: Row<'_>) -> Result<Vec<u8>, Fail> {
-    let ring = ring_of(alloc, row)?;
-    let mut reader = ListReader::new(alloc)?;
-    let mut eye = ListEye {
-        reader: &mut reader,
-        ring: &ring,
-    };
-    let request = request_of(alloc, row.cell(2))?;
-    let link = reply_of(alloc, &mut eye, &request, "n1")?;
-    Ok(link.sent().to_vec(alloc)?)
-}
-
-/// A ring, and one session of its node.
+/// A session, its client, what it answered last, and how many looks it has made.
 #[derive(Drop)]
 pub(crate) struct Node {
     alloc: Global,
-    ring: ListRing,
-    reader: ListReader,
-    session: NodeSession,
-    link: MemLink,
-    moment: u64,
+    seat: Seat,
+    client: Client,
     answer: Turn,
-    ghost within: { reader.seen ≤ ring.written },
-    ghost limits: { HasLimits ring },
-    ghost seen: { session.source.opening.low + session.source.opening.size ≤ reader.seen },
+    looked: u64,
 }
 
 impl Node {
-    /// The session of the first three cells of a case: it is opened at what the ring has now.
+    /// The session of the first three cells of a case. Its client is silent, and may go on.
     pub(crate) fn open(alloc: Global, row: Row<'_>) -> Result<Node, Fail> {
-        let ring = ring_of(alloc, row)?;
-        let mut reader = ListReader::new(alloc)?;
-        let mut eye = ListEye {
-            reader: &mut reader,
-            ring: &ring,
-        };
-        let top = eye.top();
-        let cap = eye.capacity();
-        let request = request_of(alloc, row.cell(2))?;
-        let session = NodeSession::open(alloc, &request, "n1", top, cap)?;
         Ok(Node {
             alloc,
-            ring,
-            reader,
-            session,
-            link: MemLink::new(alloc, 0)?,
-            moment: 0,
+            seat: Seat::open(alloc, row)?,
+            client: Client {
+                input: FrameReader::new(alloc)?,
+                link: MemLink::new(alloc, 0)?,
+                moment: 0,
+            },
             answer: Turn::More,
+            looked: 0,
         })
+    }
+
+    /// What the link has taken.
+    pub(crate) fn sent(&self) -> &[u8] {
+        self.client.link.sent()
     }
 
     /// Turns the session once.
     fn turn(&mut self) -> Turn {
-        let mut eye = ListEye {
-            reader: &mut self.reader,
-            ring: &self.ring,
-        };
-        self.answer = self.session.turn(&mut eye, &mut self.link, self.moment);
+        (self.answer, self.looked) = self.seat.turn(&mut self.client);
         self.answer
     }
 
-    /// Finishes the session, and tells its answer.
-    fn finish(&mut self) -> Turn {
-        let mut eye = ListEye {
-            reader: &mut self.reader,
-            ring: &self.ring,
-        };
-        self.answer = finish(&mut self.session, &mut eye, &mut self.link, self.moment);
-        self.answer
-    }
-
-    /// Turns as long as there is more. Tells the last answer, and how many turns there were.
-    fn run(&mut self) -> (Turn, u64) {
+    /// Turns as long as there is more. Tells how many turns there were.
+    fn run(&mut self) -> u64 {
         for turns in 1..1_000 {
-            match self.turn() {
-                Turn::More => {}
-                answer => return (answer, turns),
+            if self.turn() != Turn::More {
+                return turns;
             }
         }
-        (Turn::More, 1_000)
-    }
-
-    /// How many looks were made.
-    fn looked(&mut self) -> u64 {
-        let eye = ListEye {
-            reader: &mut self.reader,
-            ring: &self.ring,
-        };
-        eye.looked()
-    }
-
-    /// How many records were given, skipped and lost.
-    fn counts(&self) -> Result<String, Fail> {
-        let Counts {
-            given,
-            skipped,
-            lost,
-        } = self.session.counts();
-        Ok(format!(in self.alloc; "{given} {skipped} {lost}")?)
+        1_000
     }
 
     /// Whether so many turns have more to do.
@@ -184,68 +68,155 @@ impl Node {
         true
     }
 
-    /// Whether so many turns find that the link makes each wait.
-    fn waits(&mut self, times: u64) -> bool {
+    /// Whether so many turns are idle, and each makes so many looks, and finds the link held so often.
+    fn idles(&mut self, times: u64, looks: u64, holds: u64) -> bool {
         for _ in 0..times {
-            let waits = self.link.write_waits();
-            if self.turn() != Turn::Idle || self.link.write_waits() != waits.saturating_add(1) {
+            let looked = self.looked.saturating_add(looks);
+            let held = self.client.link.write_waits().saturating_add(holds);
+            if self.turn() != Turn::Idle {
+                return false;
+            }
+            if (self.looked, self.client.link.write_waits()) != (looked, held) {
                 return false;
             }
         }
         true
     }
 
+    /// Whether so many frames are taken of what was fed.
+    fn takes(&mut self, times: u64) -> bool {
+        for _ in 0..times {
+            if self.client.input.next() == Next::NeedMore {
+                return false;
+            }
+        }
+        true
+    }
+
+    /// How many records were given, skipped and lost.
+    fn counts(&self) -> Result<String, Fail> {
+        let Counts {
+            given,
+            skipped,
+            lost,
+        } = self.seat.session.counts();
+        Ok(format!(in self.alloc; "{given} {skipped} {lost}")?)
+    }
+
     /// Makes a step, and tells whether it came out as it says. These set the scene: `put` records,
-    /// `at` a second, a `piece` of so many bytes a write, `hold` and `free` the link, and `fail`
-    /// its write of this number. The bytes `sent`, how often it `looked`, and `counts` are
-    /// compared. Others are turns.
+    /// `at` a second, a `piece` of so many bytes a call, `hold` and `free` the link, and `fail` its
+    /// call of this number. The `client` sends bytes, and comes to its `end`; before, bytes were
+    /// `fed` and frames of them `taken`. Others are as `shows` says.
     fn makes(&mut self, step: &str) -> Result<bool, Fail> {
         let (word, value) = parted(step);
         match word {
-            "put" => put_all(&mut self.ring, self.alloc, value)?,
-            "at" => self.moment = number::<u64>(value)?.saturating_mul(SECOND),
-            "piece" => self.link.set_piece(number::<usize>(value)?.max(1)),
-            "hold" => self.link.set_held(true),
-            "free" => self.link.set_held(false),
-            "fail" => self.link.set_fail(&[number(value)?])?,
-            "sent" => return Ok(self.session.sent() == number(value)?),
-            "looked" => return Ok(self.looked() == number(value)?),
-            "counts" => return Ok(self.counts()?.as_str() == value),
-            _ => return self.answers(step),
+            "" => {}
+            "put" => self.seat.put(self.alloc, value)?,
+            "at" => self.client.moment = number::<u64>(value)?.saturating_mul(SECOND),
+            "piece" => self.client.link.set_piece(number::<usize>(value)?.max(1)),
+            "hold" => self.client.link.set_held(true),
+            "free" => self.client.link.set_held(false),
+            "fail" => self.client.link.set_fail(&[number(value)?])?,
+            "client" => self.client.link.supply(&bytes(self.alloc, value)?)?,
+            "end" => self.client.link.end(),
+            "fed" => self.client.input.feed(&bytes(self.alloc, value)?)?,
+            "taken" => return Ok(self.takes(number(value)?)),
+            _ => return self.shows(step),
         }
         Ok(true)
     }
 
-    /// Turns the session, and tells whether it answers so: `more 2` or `idle 3` in so many turns;
-    /// `done` or `fault` after any turns with more, and `done in 6` where they are six with the
-    /// last; `finish done` by the call that turns it to its end.
+    /// Compares how many bytes were `sent` and are `waiting`, how often it `looked`, how often its
+    /// client was `silent` at a read, and `counts`. Others are turns.
+    fn shows(&mut self, step: &str) -> Result<bool, Fail> {
+        let (word, value) = parted(step);
+        let shown = match word {
+            "sent" => self.seat.session.sent(),
+            "waiting" => self.seat.session.waiting(),
+            "looked" => self.looked,
+            "silent" => self.client.link.read_waits(),
+            "counts" => return Ok(self.counts()?.as_str() == value),
+            _ => return self.answers(step),
+        };
+        Ok(shown == number(value)?)
+    }
+
+    /// Turns the session, and tells whether it answers so. These are so many turns: `turn 2` whatever
+    /// they answer, `more 2`, `idle 3` with a write each that has to wait, and `waits 3` with a look
+    /// each that finds no record. `finish done` is the call that turns it to its end; and `done` is
+    /// after any turns with more, and `done in 6` where they are six with the last.
     fn answers(&mut self, step: &str) -> Result<bool, Fail> {
         let (word, value) = parted(step);
         let times = if value.is_empty() { "1" } else { value };
         match word {
             "more" => Ok(self.goes_on(number(times)?)),
-            "idle" => Ok(self.waits(number(times)?)),
-            "finish" => Ok(said(self.finish()) == value),
+            "idle" => Ok(self.idles(number(times)?, 0, 1)),
+            "waits" => Ok(self.idles(number(times)?, 1, 0)),
+            "turn" => {
+                for _ in 0..number::<u8>(times)? {
+                    _ = self.turn();
+                }
+                Ok(true)
+            }
+            "finish" => {
+                (self.answer, self.looked) = self.seat.finish(&mut self.client)?;
+                Ok(self.said()?.as_str() == value)
+            }
             _ => {
-                let (answer, turns) = self.run();
+                let turns = self.run();
+                let said = self.said()?;
                 Ok(
-                    said(answer) == step
-                        || format!(in self.alloc; "{} in {turns}", said(answer))?.as_str() == step,
+                    said.as_str() == step
+                        || format!(in self.alloc; "{said} in {turns}")?.as_str() == step,
                 )
             }
         }
     }
 
+    /// How steps say the last answer.
+    fn said(&self) -> Result<String, Fail> {
+        let word = match self.answer {
+            Turn::More => "more",
+            Turn::Idle => "idle",
+            Turn::Done => "done",
+            Turn::Cancelled => "cancelled",
+            Turn::LinkFault => "fault",
+            Turn::BadInput(fault) => return Ok(format!(in self.alloc; "{fault:?}")?),
+            Turn::Spent | Turn::NoMemory => "another",
+        };
+        Ok(format!(in self.alloc; "{word}")?)
+    }
+
     /// That steps, parted by `;`, come out as they say.
     pub(crate) fn play(&mut self, rt: &impl Abort, row: Row<'_>, steps: &str) -> Result<(), Fail> {
         for step in steps.split(';') {
-            assert!(rt; self.makes(step.trim())?, "{step} in {row}");
+            let made = self.makes(step.trim())?;
+            let said = self.said()?;
+            assert!(rt; made, "{step}, not {said}, in {row}");
         }
         Ok(())
     }
 
-    /// That the session repeats its answer and does nothing else; that the link has taken these
-    /// bytes; and, where the counts are not empty, that they are so.
+    /// What can be told of it but for the bytes that the link has taken.
+    fn shown(&self) -> Result<String, Fail> {
+        let Client { input, link, .. } = &self.client;
+        Ok(format!(in self.alloc;
+            "{:?}, {} looks, {} bytes sent, {} waiting, {} faults, {} and {} waits, input {} {}, {}",
+            self.answer,
+            self.looked,
+            self.seat.session.sent(),
+            self.seat.session.waiting(),
+            link.faults(),
+            link.read_waits(),
+            link.write_waits(),
+            input.place(),
+            input.whole(),
+            self.counts()?
+        )?)
+    }
+
+    /// That the link has taken these bytes; that, where the counts are not empty, they are so; and
+    /// that a session that has ended repeats its answer and does nothing else.
     pub(crate) fn stays(
         &mut self,
         rt: &impl Abort,
@@ -253,32 +224,22 @@ impl Node {
         sent: &[u8],
         counts: &str,
     ) -> Result<(), Fail> {
-        let (answer, looked) = (self.answer, self.looked());
-        let faults = u64::from(answer == Turn::LinkFault);
+        assert_eq!(rt; self.sent(), sent, "{row}");
+        assert_eq!(rt; self.seat.session.sent(), sent.len() as u64, "{row}");
+        assert!(rt;
+            counts.is_empty() || self.counts()?.as_str() == counts,
+            "{row}"
+        );
+        if self.answer == Turn::More || self.answer == Turn::Idle {
+            return Ok(());
+        }
+        let shown = self.shown()?;
         for moment in [0, SECOND, 9 * SECOND] {
-            self.moment = moment;
-            assert_eq!(rt; self.turn(), answer, "{row}");
-            assert_eq!(rt; self.link.sent(), sent, "{row}");
-            assert_eq!(rt; self.session.sent(), sent.len() as u64, "{row}");
-            assert_eq!(rt;
-                (self.looked(), self.link.faults()),
-                (looked, faults),
-                "{row}"
-            );
-            assert!(rt;
-                counts.is_empty() || self.counts()?.as_str() == counts,
-                "{row}"
-            );
+            self.client.moment = moment;
+            _ = self.turn();
+            assert_eq!(rt; self.shown()?, shown, "{row}");
+            assert_eq!(rt; self.sent(), sent, "{row}");
         }
         Ok(())
-    }
-}
-
-/// How steps say an answer.
-fn said(answer: Turn) -> &'static str {
-    match answer {
-        Turn::Done => "done",
-        Turn::LinkFault => "fault",
-        _ => "another",
     }
 }

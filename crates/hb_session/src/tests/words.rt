@@ -19,6 +19,8 @@ const EVENTS: &str = r#"
 4 | 0a0a 0a020805 1001 920201 "4" | 00 00000016 0a0a 0a020805 1001 920201 "4" c23e02 "n1" ca3e020805
 5 | 0a0a 0a020806 1001 920201 "5" | 00 00000016 0a0a 0a020806 1001 920201 "5" c23e02 "n1" ca3e020806
 6 | 0a0a 0a020807 1001 920201 "6" | 00 00000016 0a0a 0a020807 1001 920201 "6" c23e02 "n1" ca3e020807
+7 | 0a0a 0a020808 1001 920201 "7" | 00 00000016 0a0a 0a020808 1001 920201 "7" c23e02 "n1" ca3e020808
+8 | 0a0a 0a020809 1001 920201 "8" | 00 00000016 0a0a 0a020809 1001 920201 "8" c23e02 "n1" ca3e020809
 9 | 0a0a 0a02080a 1001 920201 "9" | 00 00000016 0a0a 0a02080a 1001 920201 "9" c23e02 "n1" ca3e02080a
 untimed | 0a06 1001 920201 "0" | 00 0000000d 0a06 1001 920201 "0" c23e02 "n1"
 
@@ -29,6 +31,8 @@ perf9@5 | 1a06 0801 1009 1a00 ca3e020805 | 00 00000012 1a06 0801 1009 1a00 c23e0
 ring4 | 1a04 0803 1004 | 00 0000000b 1a04 0803 1004 c23e02 "n1"
 
 ring3@0 | - | 00 0000000e 1a04 0803 1003 c23e02 "n1" ca3e00
+ring1@2 | - | 00 00000010 1a04 0803 1001 c23e02 "n1" ca3e020802
+ring2@2 | - | 00 00000010 1a04 0803 1002 c23e02 "n1" ca3e020802
 ring3@2 | - | 00 00000010 1a04 0803 1003 c23e02 "n1" ca3e020802
 ring1@3 | - | 00 00000010 1a04 0803 1001 c23e02 "n1" ca3e020803
 ring2@3 | - | 00 00000010 1a04 0803 1002 c23e02 "n1" ca3e020803
@@ -81,7 +85,8 @@ fn stamp(text: &str) -> Result<Option<Stamp>, Fail> {
     }))
 }
 
-/// The request for `all`, for `first` or `last` flows, and for those `since` and `until` a moment.
+/// The request for `all`, for `first` or `last` flows, for those `since` and `until` a moment, and for
+/// those that `follow`.
 pub(crate) fn request_of(alloc: Global, asked: &str) -> Result<GetFlowsRequest, Fail> {
     let mut request = GetFlowsRequest::new(alloc)?;
     for part in asked.split(',') {
@@ -93,6 +98,7 @@ pub(crate) fn request_of(alloc: Global, asked: &str) -> Result<GetFlowsRequest, 
             }
             "since" => request.since = stamp(value)?,
             "until" => request.until = stamp(value)?,
+            "follow" => request.follow = true,
             "all" => {}
             _ => return Err(Fail::new(format_args!("not asked: {part}"))),
         }

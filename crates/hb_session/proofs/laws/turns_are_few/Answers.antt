@@ -6,5 +6,5 @@ use Rattle.hb_session.proofs.laws.turns_are_few.Goals as goal
 
 pub returns : goal.returns
 returns c = record {
-  few = λ o turns made leads taken moved. few_turns o turns (length (spelled (owed o (all_looks turns)))) made leads taken moved;
+  few = λ o turns alone made leads taken moved. few_turns o turns (length (spelled (owed o (all_looks turns)))) alone made leads taken moved;
 }

@@ -1,7 +1,6 @@
-use Rattle.std.proofs.Common.{◌≡◌, ◌≢◌, ◌∙◌, ◌++◌, ◌<◌, ◌≤◌, ◌^◌, ℕ, List, [], length, Some, ap, subst, arith, rules, refl, max, inl, inr}
+use Rattle.std.proofs.Common.{◌≡◌, ◌≢◌, ◌∙◌, ◌++◌, ◌<◌, ◌≤◌, ◌^◌, ℕ, List, [], length, ap, subst, arith, rules, refl, max, inl, inr}
 use Rattle.std.specs.List.{All}
 use Rattle.std.proofs.lemmas.List.Elements.{All-weaker}
-use Rattle.hb_edge.specs.Link.{Held}
 use Rattle.hb_edge.specs.MemLink.{LinkState}
 use Rattle.hb_look.specs.Looks.{added, after}
 use Rattle.hb_session.specs.Openings.{Opening, opened}
@@ -9,7 +8,7 @@ use Rattle.hb_session.specs.Replies.{AreMade}
 use Rattle.hb_session.specs.Sessions.{IsWhole}
 use Rattle.hb_session.specs.declared.turn.Turn.TheVariants as Turn
 use Rattle.hb_session.proofs.Looks.{is_reply}
-use Rattle.hb_session.proofs.Links.{IsFree, free_after, ends_else, same_taken}
+use Rattle.hb_session.proofs.Links.{IsFree, free_after, ends_else, same_held}
 use Rattle.hb_session.proofs.whole.reply_of.Goals as goal
 
 pub returns-in-Done-clause-ok : goal.returns-in-Done-clause-ok
@@ -28,41 +27,36 @@ returns-in-Done-clause-ok g c = λ log tells.
     let is : session.source.opening ≡ o =
     c.in-Ok.ensures.opening ∙ ap (λ (n : ℕ). opened c.args.request.now c.args.name.now n c.capacity.result) top
     ∙ ap (λ (n : ℕ). opened c.args.request.now c.args.name.now (length log) n) capacity in
-    let made : AreMade session.source.opening more = subst (λ (x : Opening). AreMade x more) turned.1.opening (turned.1.stands [] [] c.in-Ok.ensures.stands).made in
+    let made : AreMade session.source.opening more = subst (λ (x : Opening). AreMade x more) turned.2.opening (turned.2.stands [] [] c.in-Ok.ensures.stands).made in
     let answered : c.finish.result ≢ Turn.NoMemory = search rules in
-    let whole : IsWhole session.source.opening more turned.0 = (turned.3 [] [] c.in-Ok.ensures.stands c.in-Ok.ensures.going.0 answered).0 c.in-Done.is in
+    let whole : IsWhole session.source.opening more turned.1 = (turned.5 [] [] c.in-Ok.ensures.stands c.in-Ok.ensures.going.0 answered).0 c.in-Done.is in
     let at_ring : All (λ look. look.capacity ≡ cap) more = subst (λ (n : ℕ). All (λ look. look.capacity ≡ n) more) same looked.0.at_ring in
     let moments : All (λ look. look.moment ≡ moment) more =
     All-weaker (λ look. (look.moment ≡ moment) × (look.position < after look)) (λ look. look.moment ≡ moment) (λ look both. both.0) more looked.1 in
     let start : moment ≡ 0 = ap (λ (n : ℕ). max n 0) c.in-Ok.ensures.going.1 in
-    let link = c.in-Ok-new.link in
-    let new = c.finish.new.link in
-    let held : Held → Type 0 = λ h. Some (record { taken = new.taken; unread = new.unread; ended = new.ended }) ≡ Some (record h { taken = h.taken ++ turned.0 }) in
-    let told : held (record { taken = link.taken; unread = link.unread; ended = link.ended }) = turned.2.holds _ refl in
-    let empty : link.taken ≡ [] = ap (λ (s : LinkState). s.taken) c.in-Ok-new.ensures.empty in
-    let taken : new.taken ≡ link.taken ++ turned.0 = same_taken _ _ told in
-    let sent : new.taken ≡ turned.0 = taken ∙ ap (λ (x : List ℕ). x ++ turned.0) empty in
-    is_reply o session.source.opening log cap moment more c.finish.new.link.taken is made (looked.0.found log (c.top-top.ensures.looked.told log tells)) at_ring moments start
+    let link : LinkState = c.end.new.self in
+    let new : LinkState = c.finish.new.link in
+    let held = turned.3.holds (record { taken = link.taken; unread = link.unread; ended = link.ended }) refl in
+    let empty : link.taken ≡ [] = search rules in
+    let taken : new.taken ≡ link.taken ++ turned.1 = same_held _ _ held.2 in
+    let sent : new.taken ≡ turned.1 = taken ∙ ap (λ (x : List ℕ). x ++ turned.1) empty in
+    is_reply o session.source.opening log cap moment more c.finish.new.link.taken is c.requires.ends made (looked.0.found log (c.top-top.ensures.looked.told log tells)) at_ring moments start
     whole.0 (sent ∙ whole.1) (omega arith) (omega arith)
 
 pub prove-unreachable-requires : goal.prove-unreachable-requires
 prove-unreachable-requires g c =
-    let link = c.in-Ok-new.link in
-    let new = c.finish.new.link in
-    let is = c.in-Ok-new.ensures.empty in
+    let link : LinkState = c.end.new.self in
+    let new : LinkState = c.finish.new.link in
     let none : length (g.R.Look.reader c.top-top.new.self).looks ≤ 2 ^ 61 = omega (arith, ap length c.top-top.ensures.looks, ap length c.requires.fresh) in
     let ends = c.finish.ensures.ends c.in-Ok.ensures.going.0 none in
-    elim (c.finish.ensures.turned.2.left _ refl) [
-      | inl written ↦
-          let free : IsFree link = record {
-            planned = ap (λ (s : LinkState). s.fails) is;
-            loose = ap (λ (s : LinkState). s.held) is;
-            faults = ap (λ (s : LinkState). s.faults) is;
-            waits = ap (λ (s : LinkState). s.write_waits) is;
-          } in
-          let after : IsFree new = free_after link new written.0 free written.1 in
+    let turned = c.finish.ensures.turned in
+    elim (turned.3.left (record { taken = link.taken; unread = link.unread; ended = link.ended }) refl) [
+      | inl made ↦
+          let free : IsFree link = record { planned = search rules; loose = search rules; faults = search rules; waits = search rules } in
+          let after : IsFree new = free_after link new made.0 free made.1 in
           let ended = ends (λ rose. omega (arith, rose, free.faults, after.faults)) (λ rose. omega (arith, rose, free.waits, after.waits)) in
-          ends_else c.finish.result ended c.in-LinkFault.is
+          let silent = c.finish.ensures.silent c.in-Ok.ensures.going.0 (search rules) (record { taken = link.taken; unread = link.unread; ended = link.ended }) refl (search rules) in
+          ends_else c.finish.result ended silent (search rules) (search rules)
       | inr failed ↦
           let fed : new.refusals ≡ 0 = search rules in
           omega (arith, failed, fed)
