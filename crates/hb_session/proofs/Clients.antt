@@ -1,5 +1,5 @@
 -- What is heard of a client, and what stops a session for it.
-use Rattle.std.proofs.Common.{◌≡◌, ◌≢◌, ◌↔◌, ◌⊎◌, inl, inr, ℕ, ◌<◌, Bool, true, false, cond, ◌&&◌, List, [], ◌∷◌, ◌++◌, Option, Some, None, refl, sym, ap, ◌∙◌, append_assoc, arith, length, subst}
+use Rattle.std.proofs.Common.{◌≡◌, ◌≢◌, ◌↔◌, ◌⊎◌, inl, inr, ℕ, ◌+◌, ◌<◌, Bool, true, false, cond, ◌&&◌, List, [], ◌∷◌, ◌++◌, Option, Some, None, refl, sym, ap, ◌∙◌, append_assoc, arith, length, subst}
 use Rattle.std.specs.Prelude.{◌==◌, nat_lt}
 use Rattle.std.specs.Int.{w32, to_be_bytes}
 use Rattle.std.specs.List.{flat_map}
@@ -7,16 +7,16 @@ use Rattle.std.proofs.lemmas.Bool.{cases_eq, eq-eqb, ne_eqb, lt-ltb, ltb-true}
 use Rattle.std.proofs.lemmas.List.{append-nil}
 use Rattle.hb_edge.specs.declared.link.Moved.{Moved}
 use Rattle.hb_edge.specs.declared.link.Moved.TheVariants as moves
-use Rattle.hb_frame.specs.Frames.{Frame as WholeFrame, frame_bytes}
+use Rattle.hb_frame.specs.Frames.{Frame as WholeFrame, frame, frame_bytes}
 use Rattle.hb_frame.specs.Cut.{StartsFrame, IsUnfinished, HasBadKind, HasLongBody}
-use Rattle.hb_frame.specs.Reader.{Reader, Answers, HasRead, HasGiven}
+use Rattle.hb_frame.specs.Reader.{Reader, Answers, HasRead, HasGiven, HasStayed, GoesOn, place_of}
 use Rattle.hb_frame.specs.declared.reader.Next.{Next}
 use Rattle.hb_frame.specs.declared.reader.Next.TheVariants as next
 use Rattle.hb_session.specs.declared.turn.InputFault.{InputFault}
 use Rattle.hb_session.specs.declared.turn.InputFault.TheVariants as faults
 use Rattle.hb_session.specs.declared.turn.Turn.{Turn}
 use Rattle.hb_session.specs.declared.turn.Turn.TheVariants as turns
-use Rattle.hb_session.specs.Clients.{Heard, fed, cancel, IsFault, Stops, is_for_client, IsFed, IsInputAfter, IsInputFor, IsEndedFor, IsStopped, IsAnsweredBy}
+use Rattle.hb_session.specs.Clients.{Heard, fed, cancel, IsFault, Stops, is_for_client, IsFed, IsInputAfter, IsInputFor, IsEndedFor, IsStopped, HasAnswered, IsStoppedBy}
 use Rattle.hb_session.proofs.Bools.{when_false, when_true}
 use Rattle.hb_session.proofs.Replies.{some_same}
 
@@ -165,9 +165,10 @@ fed_reads old new piece is bytes given has = record {
   place = is.1 ∙ has.place;
 }
 
-pub fed_after : (old new : Reader) (piece : List ℕ) (answer : Turn) → IsFed old new piece → IsInputAfter old new piece answer
-fed_after old new piece answer is = record {
+pub fed_after : (old new : Reader) (piece : List ℕ) (answer : Turn) → is_for_client answer ≡ false → IsFed old new piece → IsInputAfter old new piece answer
+fed_after old new piece answer other is = record {
   holds = λ _. (piece, [], sym (append-nil piece), is, λ _. refl);
+  gave = λ client. absurd (let both : true ≡ false = sym client ∙ other in cc);
   reads = λ _ bytes given has. ([], subst (HasRead new (bytes ++ piece)) (sym (append-nil given)) (fed_reads old new piece is bytes given has));
 }
 
@@ -175,23 +176,27 @@ pub fed_none : (old : Reader) → IsFed old old []
 fed_none old = (sym (append-nil old.held), refl)
 
 -- nothing was read, or it could not be kept
-pub unfed_after : (old new : Reader) (piece : List ℕ) (answer : Turn) → new ≡ old → (piece ≡ []) ⊎ (answer ≡ turns.NoMemory) → IsInputAfter old new piece answer
-unfed_after old new piece answer same (inl none) =
-    subst (λ (p : List ℕ). IsInputAfter old new p answer) (sym none) (subst (λ (r : Reader). IsInputAfter old r [] answer) (sym same) (fed_after old old [] answer (fed_none old)))
-unfed_after old new piece answer same (inr starved) = record {
+pub unfed_after : (old new : Reader) (piece : List ℕ) (answer : Turn) → is_for_client answer ≡ false → new ≡ old → (piece ≡ []) ⊎ (answer ≡ turns.NoMemory)
+    → IsInputAfter old new piece answer
+unfed_after old new piece answer other same (inl none) =
+    subst (λ (p : List ℕ). IsInputAfter old new p answer) (sym none) (subst (λ (r : Reader). IsInputAfter old r [] answer) (sym same) (fed_after old old [] answer other (fed_none old)))
+unfed_after old new piece answer other same (inr starved) = record {
   holds = λ _. ([], piece, refl, subst (λ (r : Reader). IsFed old r []) (sym same) (fed_none old), λ not. absurd (not starved));
+  gave = λ client. absurd (let both : true ≡ false = sym client ∙ other in cc);
   reads = λ not. absurd (not starved);
 }
 
 -- it was fed the piece, and was asked for the next frame
 pub asked_for : (old mid new : Reader) (piece : List ℕ) (last : Moved) (result : Option Turn) → mid ≡ fed old piece
     → (result ≡ None → (new.held ≡ mid.held) × (new.place ≡ mid.place))
+    → HasAnswered mid new
     → ((bytes : List ℕ) (given : List WholeFrame) → HasRead mid bytes given → (more : List WholeFrame) × HasRead new bytes (given ++ more))
     → ((answer : Turn) → (result ≡ Some answer) ↔ Stops mid last answer) → IsInputFor old new piece result
-asked_for old mid new piece last None is stays reads stops =
+asked_for old mid new piece last None is stays gave reads stops =
     (((stays refl).0 ∙ ap (λ (r : Reader). r.held) is), ((stays refl).1 ∙ ap (λ (r : Reader). r.place) is))
-asked_for old mid new piece last (Some answer) is stays reads stops = record {
+asked_for old mid new piece last (Some answer) is stays gave reads stops = record {
   holds = λ not. absurd (let both : true ≡ false = sym (for_client mid last answer ((stops answer).0 refl)) ∙ not in cc);
+  gave = λ _. subst (λ (r : Reader). HasAnswered r new) is gave;
   reads = λ _ bytes given has. reads (bytes ++ piece) given (fed_reads old mid piece (ap (λ (r : Reader). r.held) is, ap (λ (r : Reader). r.place) is) bytes given has);
 }
 
@@ -235,10 +240,6 @@ short_client turns.Idle is = is
 short_client turns.Done is = is
 short_client turns.Spent is = is
 
--- an answer is that which the client's bytes give
-abbrev pub IsStoppedBy : Reader → Heard → Turn → Turn → Type 0
-IsStoppedBy input heard answer turn = (answer ≡ turn) ↔ Stops (fed input heard.piece) heard.last turn
-
 -- the session ended for what was heard
 module _ (input : Reader) (heard : Heard) (result : Option Turn) (answer : Turn) (is : IsEndedFor input heard result) (some : result ≡ Some answer) where
   pub some_stopped : IsStopped heard answer ⊎ (answer ≡ turns.NoMemory)
@@ -254,7 +255,7 @@ module _ (input : Reader) (heard : Heard) (result : Option Turn) (answer : Turn)
   pub some_fault : (answer ≡ turns.LinkFault) ↔ (heard.last ≡ moves.Failed)
   some_fault = (λ e. is.fault.0 (some ∙ ap (λ (t : Turn). Some t) e), λ failed. some_same (sym some ∙ is.fault.1 failed))
 
-  pub some_stops : answer ≢ turns.NoMemory → heard.last ≢ moves.Failed → (turn : Turn) → is_for_client turn ≡ true → (answer ≡ turn) ↔ Stops (fed input heard.piece) heard.last turn
+  pub some_stops : IsStoppedBy input heard.piece heard.last answer
   some_stops not fine turn for =
       let both = is.stops (λ e. not (some_same (sym some ∙ e))) fine turn in
       (λ e. both.0 (some ∙ ap (λ (t : Turn). Some t) e), λ stops. some_same (sym some ∙ both.1 stops))
@@ -268,8 +269,8 @@ module _ (input : Reader) (heard : Heard) (result : Option Turn) (answer : Turn)
   none_stopped (inl failed) = none_failed failed
   none_stopped (inr client) = absurd (let both : true ≡ false = sym client ∙ other in cc)
 
-  pub none_stops : (turn : Turn) → is_for_client turn ≡ true → (answer ≡ turn) ↔ Stops (fed input heard.piece) heard.last turn
-  none_stops turn for = (
+  pub none_stops : IsStoppedBy input heard.piece heard.last answer
+  none_stops not fine turn for = (
     λ e. absurd (let both : true ≡ false = sym for ∙ ap is_for_client (sym e) ∙ other in cc),
     λ stops. absurd (none_some (sym none ∙ (is.stops (λ e. none_some (sym none ∙ e)) none_failed turn).1 stops)),
   )
@@ -279,30 +280,55 @@ module _ (input : Reader) (heard : Heard) (result : Option Turn) (answer : Turn)
 pub fed_both : (a b c : Reader) (p q : List ℕ) → IsFed a b p → IsFed b c q → IsFed a c (p ++ q)
 fed_both a b c p q first second = (second.0 ∙ ap (λ (h : List ℕ). h ++ q) first.0 ∙ append_assoc a.held p q, second.1 ∙ first.1)
 
+-- what it answers, and how it goes on then, is by what it holds, and where
+moved_answers : (a b : Reader) (n : Next) → a.held ≡ b.held → a.place ≡ b.place → Answers a n → Answers b n
+moved_answers a b (next.Frame kind at size) held place (here, body, after, starts, long) =
+    (here ∙ place, body, after, subst (λ (h : List ℕ). StartsFrame h (record { kind = kind; body = body }) after) held starts, long)
+moved_answers a b next.NeedMore held place is = subst (λ (h : List ℕ). IsUnfinished h) held is
+moved_answers a b (next.BadKind at kind) held place is = (is.0 ∙ place, subst (λ (h : List ℕ). HasBadKind h kind) held is.1)
+moved_answers a b (next.TooLong at size) held place is = (is.0 ∙ place, subst (λ (h : List ℕ). HasLongBody h size) held is.1)
+
+stayed_by : (a b new : Reader) → a.held ≡ b.held → a.place ≡ b.place → HasStayed a new → HasStayed b new
+stayed_by a b new held place is = record { held = is.held ∙ held; place = is.place ∙ place; body = is.body }
+
+moved_on : (a b new : Reader) (n : Next) → a.held ≡ b.held → a.place ≡ b.place → GoesOn a new n → GoesOn b new n
+moved_on a b new (next.Frame kind at size) held place is = (
+  subst (λ (h : List ℕ). StartsFrame h (record { kind = kind; body = new.body }) new.held) held is.0,
+  is.1,
+  is.2 ∙ ap (λ (p : ℕ). place_of (p + length (frame kind new.body))) place,
+)
+moved_on a b new next.NeedMore held place is = stayed_by a b new held place is
+moved_on a b new (next.BadKind at kind) held place is = stayed_by a b new held place is
+moved_on a b new (next.TooLong at size) held place is = stayed_by a b new held place is
+
+-- fed in two pieces, it holds the same
+both_held : (a b : Reader) (p q : List ℕ) → IsFed a b p → (fed b q).held ≡ (fed a (p ++ q)).held
+both_held a b p q is = ap (λ (h : List ℕ). h ++ q) is.0 ∙ append_assoc a.held p q
+
 pub after_both : (a b c : Reader) (p q : List ℕ) (answer : Turn) → IsFed a b p → IsInputAfter b c q answer → IsInputAfter a c (p ++ q) answer
 after_both a b c p q answer first second = record {
   holds = λ not. let h = second.holds not in
       (p ++ h.0, h.1, ap (λ (x : List ℕ). p ++ x) h.2 ∙ sym (append_assoc p h.0 h.1), fed_both a b c p h.0 first h.3, h.4);
+  gave = λ client. let g = second.gave client in let held = both_held a b p q first in
+      (g.0, moved_answers (fed b q) (fed a (p ++ q)) g.0 held first.1 g.1, moved_on (fed b q) (fed a (p ++ q)) c g.0 held first.1 g.2);
   reads = λ not bytes given has. let h = second.reads not (bytes ++ p) given (fed_reads a b p first bytes given has) in
       (h.0, subst (λ (x : List ℕ). HasRead c x (given ++ h.0)) (append_assoc bytes p q) h.1);
 }
 
 -- only what a frame reader holds, and where, counts
 moved_fault : (a b : Reader) (last : Moved) (fault : InputFault) → a.held ≡ b.held → a.place ≡ b.place → IsFault a last fault → IsFault b last fault
-moved_fault a b last (faults.BadKind at kind) held place is =
-    (is.0 ∙ place, subst (λ (h : List ℕ). HasBadKind h kind) held is.1)
-moved_fault a b last (faults.TooLong at size) held place is =
-    (is.0 ∙ place, subst (λ (h : List ℕ). HasLongBody h size) held is.1)
+moved_fault a b last (faults.BadKind at kind) held place is = moved_answers a b (next.BadKind at kind) held place is
+moved_fault a b last (faults.TooLong at size) held place is = moved_answers a b (next.TooLong at size) held place is
 moved_fault a b last (faults.NotCall at) held place is = is
 moved_fault a b last (faults.NotMessage at) held place is = is
 moved_fault a b last (faults.Cut at) held place is =
-    (is.0, is.1 ∙ place, subst (λ (h : List ℕ). 0 < length h) held is.2, subst (λ (h : List ℕ). IsUnfinished h) held is.3)
+    (is.0, is.1 ∙ place, subst (λ (h : List ℕ). 0 < length h) held is.2, moved_answers a b next.NeedMore held place is.3)
 moved_fault a b last (faults.Extra at) held place (kind, size, other, is) =
-    (kind, size, other, (is.0 ∙ place, is.1, is.2, subst (λ (h : List ℕ). StartsFrame h (record { kind = kind; body = is.1 }) is.2) held is.3, is.4))
+    (kind, size, other, moved_answers a b (next.Frame kind at size) held place is)
 
 moved_stops : (a b : Reader) (last : Moved) (answer : Turn) → a.held ≡ b.held → a.place ≡ b.place → Stops a last answer → Stops b last answer
 moved_stops a b last turns.Cancelled held place (size, is) =
-    (size, (refl, is.1, is.2, subst (λ (h : List ℕ). StartsFrame h (record { kind = cancel; body = is.1 }) is.2) held is.3, is.4))
+    (size, subst (λ (n : ℕ). Answers b (next.Frame cancel n size)) place (moved_answers a b (next.Frame cancel a.place size) held place is))
 moved_stops a b last (turns.BadInput fault) held place is = moved_fault a b last fault held place is
 moved_stops a b last turns.More held place is = is
 moved_stops a b last turns.Idle held place is = is
@@ -348,10 +374,6 @@ silent_still input piece unread rest last answer none dry front stops =
     let same : piece ≡ [] = none_of piece rest (sym dry ∙ front) in
     not_true (is_for_client answer) (λ client. no_stop (fed input piece) last answer (ap (λ (h : List ℕ). h ++ piece) none ∙ same) (stops client))
 
--- what stops a session, fed in two pieces
-pub stops_both : (a b : Reader) (p q : List ℕ) (last : Moved) (answer : Turn) → IsFed a b p → Stops (fed b q) last answer → Stops (fed a (p ++ q)) last answer
-stops_both a b p q last answer is stops = moved_stops (fed b q) (fed a (p ++ q)) last answer (ap (λ (h : List ℕ). h ++ q) is.0 ∙ append_assoc a.held p q) is.1 stops
-
 -- a turn that goes on fed what it heard
 pub fed_more : (a b : Reader) (piece : List ℕ) (answer : Turn) → IsInputAfter a b piece answer → answer ≡ turns.More → IsFed a b piece
 fed_more a b piece answer is more =
@@ -361,13 +383,15 @@ fed_more a b piece answer is more =
     subst (λ (p : List ℕ). IsFed a b p) (sym same) holds.3
 
 -- an answer for the client has its cause in what was heard
-pub client_stops : (input : Reader) (heard : Heard) (answer : Turn) → (heard.last ≡ moves.Failed → answer ≡ turns.LinkFault)
-    → (answer ≢ turns.NoMemory → heard.last ≢ moves.Failed → (turn : Turn) → is_for_client turn ≡ true → (answer ≡ turn) ↔ Stops (fed input heard.piece) heard.last turn)
-    → is_for_client answer ≡ true → Stops (fed input heard.piece) heard.last answer
-client_stops input heard answer fault stopped client =
+pub client_stops : (input : Reader) (piece : List ℕ) (last : Moved) (answer : Turn) → (last ≡ moves.Failed → answer ≡ turns.LinkFault)
+    → IsStoppedBy input piece last answer → is_for_client answer ≡ true → Stops (fed input piece) last answer
+client_stops input piece last answer fault stopped client =
     (stopped (λ e. absurd (let both : true ≡ false = sym client ∙ ap is_for_client e in cc))
     (λ failed. absurd (let both : true ≡ false = sym client ∙ ap is_for_client (fault failed) in cc)) answer client).0 refl
 
-pub answered_both : (a b c : Reader) (p q : List ℕ) (last : Moved) (answer : Turn) → IsFed a b p → IsInputAfter b c q answer
-    → (is_for_client answer ≡ true → Stops (fed b q) last answer) → IsAnsweredBy a c (p ++ q) last answer
-answered_both a b c p q last answer first second stops = (after_both a b c p q answer first second, λ client. stops_both a b p q last answer first (stops client))
+-- what stops a session, fed in two pieces
+pub stopped_both : (a b : Reader) (p q : List ℕ) (last : Moved) (answer : Turn) → IsFed a b p → IsStoppedBy b q last answer → IsStoppedBy a (p ++ q) last answer
+stopped_both a b p q last answer first stopped not fine turn for =
+    let held = both_held a b p q first in
+    let is = stopped not fine turn for in
+    (λ e. moved_stops (fed b q) (fed a (p ++ q)) last turn held first.1 (is.0 e), λ stops. is.1 (moved_stops (fed a (p ++ q)) (fed b q) last turn (sym held) (sym first.1) stops))

@@ -5,7 +5,8 @@ use Rattle.hb_edge.specs.declared.link.Moved.{Moved}
 use Rattle.hb_edge.specs.declared.link.Moved.TheVariants.{Took, NotYet, End, Failed}
 use Rattle.hb_edge.specs.Link.{Call, Read, Held, Shown, IsDry}
 use Rattle.hb_frame.specs.Frames.{Frame as WholeFrame}
-use Rattle.hb_frame.specs.Reader.{Reader, Answers, HasRead}
+use Rattle.hb_frame.specs.Reader.{Reader, Answers, GoesOn, HasRead}
+use Rattle.hb_frame.specs.declared.reader.Next.{Next}
 use Rattle.hb_frame.specs.declared.reader.Next.TheVariants as next
 use Rattle.hb_session.specs.declared.turn.InputFault.{InputFault}
 use Rattle.hb_session.specs.declared.turn.InputFault.TheVariants as faults
@@ -101,11 +102,16 @@ is_for_client turns.NoMemory = false
 abbrev pub IsFed : Reader → Reader → List ℕ → Type 0
 IsFed old new piece = (new.held ≡ old.held ++ piece) × (new.place ≡ old.place)
 
+-- a frame reader answered once what comes next
+abbrev pub HasAnswered : Reader → Reader → Type 0
+HasAnswered old new = (given : Next) × Answers old given × GoesOn old new given
+
 -- What turns that ended in this answer leave of a frame reader: it was fed the piece, or at want
--- of memory a front of it, and gave a frame at most, and that for an answer for the client.
+-- of memory a front of it, and for an answer for the client it gave what comes next, once.
 pub record IsInputAfter (old new : Reader) (piece : List ℕ) (answer : Turn) : Type 0 where
   pub holds : is_for_client answer ≡ false → (front : List ℕ) × (rest : List ℕ)
       × (piece ≡ front ++ rest) × IsFed old new front × (answer ≢ turns.NoMemory → rest ≡ [])
+  pub gave : is_for_client answer ≡ true → HasAnswered (fed old piece) new
   pub reads : answer ≢ turns.NoMemory → (bytes : List ℕ) → (given : List WholeFrame)
       → HasRead old bytes given
       → (more : List WholeFrame) × HasRead new (bytes ++ piece) (given ++ more)
@@ -125,7 +131,8 @@ pub record IsEndedFor (input : Reader) (heard : Heard) (result : Option Turn) : 
 abbrev pub IsStopped : Heard → Turn → Type 0
 IsStopped heard answer = (heard.last ≡ Failed) ⊎ (is_for_client answer ≡ true)
 
--- Turns left it so, and an answer for the client has its cause in what it was fed.
-abbrev pub IsAnsweredBy : Reader → Reader → List ℕ → Moved → Turn → Type 0
-IsAnsweredBy old new piece last answer = IsInputAfter old new piece answer
-    × (is_for_client answer ≡ true → Stops (fed old piece) last answer)
+-- Turns that heard this piece, the last read answering so, ended with an answer for the client
+-- exactly where its bytes ask for that one; but where a read failed, or for want of memory.
+abbrev pub IsStoppedBy : Reader → List ℕ → Moved → Turn → Type 0
+IsStoppedBy input piece last answer = answer ≢ turns.NoMemory → last ≢ Failed → (turn : Turn)
+    → is_for_client turn ≡ true → (answer ≡ turn) ↔ Stops (fed input piece) last turn

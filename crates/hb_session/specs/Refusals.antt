@@ -1,7 +1,9 @@
 -- The requests that are refused.
-use Rattle.std.specs.Prelude.{ℕ, ◌&&◌, List, Option, Some, None, if◌then◌else◌, codes}
+use Rattle.std.specs.Prelude.{◌≡◌, ◌⊎◌, ℕ, ◌&&◌, List, Option, Some, None, if◌then◌else◌, codes}
 use Rattle.hb_api.specs.declared.request.GetFlowsRequest.{GetFlowsRequest}
 use Rattle.hb_api.specs.Requests.{is_masked}
+use Rattle.hb_session.specs.declared.turn.OpenFault.{OpenFault}
+use Rattle.hb_session.specs.declared.turn.OpenFault.TheVariants as faults
 
 -- why a call is refused: gRPC's status code, and a text
 pub record Status : Type 0 where
@@ -23,3 +25,8 @@ refusal request = if request.first && request.follow
     else if is_masked request
     then Some (record { code = unimplemented; text = codes "field mask" })
     else None
+
+-- why no session was opened for a request: it is refused with this status, or for want of memory
+abbrev pub IsRefusal : GetFlowsRequest → OpenFault → Type 0
+IsRefusal request fault = (fault ≡ faults.NoMemory) ⊎ ((status : Status)
+    × (refusal request ≡ Some status) × (fault ≡ faults.BadRequest status.code status.text))

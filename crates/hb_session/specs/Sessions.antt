@@ -1,6 +1,7 @@
 -- A session: its source of frames, what waits of them and what was taken, and what it heard.
 use Rattle.std.specs.Prelude.{◌≡◌, ◌≢◌, ◌↔◌, ◌⊎◌, ℕ, ◌+◌, ◌-◌, ◌^◌, ◌<◌, ◌≤◌, ◌&&◌, nat_le, true, false, List, [], ◌∷◌, ◌++◌, length, take, min, Option, Some, None, if◌then◌else◌}
 use Rattle.std.specs.List.{fold, flat_map}
+use Rattle.std.specs.Option.{ForSome}
 use Rattle.hb_edge.specs.Causes.{Rose}
 use Rattle.hb_edge.specs.Link.{Call, Read, Write}
 use Rattle.hb_edge.specs.declared.link.Moved.{Moved}
@@ -160,17 +161,9 @@ ended_by turns.LinkFault = Some turns.LinkFault
 ended_by turns.Spent = Some turns.Spent
 ended_by turns.NoMemory = Some turns.NoMemory
 
--- an answer that a session may have ended with
+-- a session has ended with no answer, or with one that ends it
 abbrev pub IsEnding : Option Turn → Type 0
-IsEnding None = Unit {0}
-IsEnding (Some turns.More) = ⊥
-IsEnding (Some turns.Idle) = ⊥
-IsEnding (Some turns.Done) = Unit {0}
-IsEnding (Some turns.Cancelled) = Unit {0}
-IsEnding (Some (turns.BadInput fault)) = Unit {0}
-IsEnding (Some turns.LinkFault) = Unit {0}
-IsEnding (Some turns.Spent) = Unit {0}
-IsEnding (Some turns.NoMemory) = Unit {0}
+IsEnding answer = ForSome answer (λ turn. ended_by turn ≡ Some turn)
 
 -- while a reply goes on, its source has a position to look at; once it has ended, bytes wait
 abbrev pub IsReady : Source → List ℕ → Type 0

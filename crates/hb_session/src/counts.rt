@@ -1,7 +1,7 @@
 //! How a session fared.
 
-/// How many positions of a window that was read forwards are of each kind. Of one that is read
-/// backwards all are 0.
+/// How many positions are of each kind that were read forwards, of the window and behind it. A window
+/// that is read backwards counts nothing.
 #[derive(Clone, Copy, Debug, PartialEq, Eq)]
 pub struct Counts {
     /// Records that were read and given.

@@ -8,7 +8,7 @@ ghost use Rattle.hb_look.specs.Limits.{most_records};
 ghost use Rattle.hb_look.specs.Looks.{added, after};
 ghost use Rattle.hb_look.specs.Progress.{HasLooked};
 ghost use Rattle.hb_session.specs.Openings.{top};
-ghost use Rattle.hb_session.specs.Clients.{is_for_client, IsAnsweredBy};
+ghost use Rattle.hb_session.specs.Clients.{is_for_client, IsInputAfter, IsStoppedBy};
 ghost use Rattle.hb_session.specs.Sessions.{HaveTurned, HasDone, EndsBy, ended_by};
 
 use crate::{NodeSession, Turn};
@@ -31,7 +31,8 @@ pub fn finish<R: Look, L: Link>(
         (added (R.reader reader.old).looks (R.reader reader.new).looks) bytes
         × HasMoved L.shown L.held L.after L.fixed link.old link.new heard bytes
         × (session.old.answer ≡ None
-        → IsAnsweredBy input.old input.new heard session.new.heard.last result)
+        → IsInputAfter input.old input.new heard result
+        × IsStoppedBy input.old heard session.new.heard.last result)
         × HasDone session.old result
         (added (R.reader reader.old).looks (R.reader reader.new).looks) bytes }
     ensures looked { HasLooked R.reader R.tells R.fixed reader.old reader.new

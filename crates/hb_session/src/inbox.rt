@@ -5,7 +5,7 @@ ghost use Rattle.hb_edge.specs.Link.{HasMoved};
 ghost use Rattle.hb_session.specs.declared.turn.Turn.{Turn};
 ghost use Rattle.hb_frame.specs.Frames.{Frame};
 ghost use Rattle.hb_frame.specs.Reader.{HasRead};
-ghost use Rattle.hb_session.specs.Clients.{unheard, HasHeard, IsHeardOf, heard_of, Stops, IsEndedFor, IsInputFor};
+ghost use Rattle.hb_session.specs.Clients.{unheard, HasHeard, IsHeardOf, heard_of, Stops, IsEndedFor, HasAnswered, IsInputFor};
 
 use crate::{InputFault, Turn};
 use hb_edge::{Link, Moved};
@@ -104,6 +104,7 @@ fn stop_of(input: &mut FrameReader, last: Moved) -> Option<Turn>
     ensures stops { (answer : Turn) → (result ≡ Some answer) ↔ Stops input.old last answer }
     ensures stays { result ≡ None → (input.new.held ≡ input.old.held)
         × (input.new.place ≡ input.old.place) }
+    ensures gave { HasAnswered input.old input.new }
     ensures reads { (bytes : List ℕ) (given : List Frame) → HasRead input.old bytes given
         → (more : List Frame) × HasRead input.new bytes (given ++ more) }
 {

@@ -22,8 +22,6 @@ mod refusal;
 mod session;
 mod source;
 mod span;
-#[cfg(test)]
-mod tests;
 mod turn;
 mod way;
 mod whole;

@@ -1,6 +1,6 @@
 //! The requests that are refused.
-ghost use Rattle.std.specs.Prelude.{◌≡◌, ◌⊎◌, None, Some, IfOk, IfErr};
-ghost use Rattle.hb_session.specs.Refusals.{Status, refusal};
+ghost use Rattle.std.specs.Prelude.{◌≡◌, ◌⊎◌, None, IfOk, IfErr};
+ghost use Rattle.hb_session.specs.Refusals.{refusal, IsRefusal};
 
 use crate::OpenFault;
 use hb_api::GetFlowsRequest;
@@ -15,9 +15,7 @@ const UNIMPLEMENTED: u32 = 12;
 /// Fails with the status of the first check that refuses a request.
 pub(crate) fn check(alloc: Global, request: &GetFlowsRequest) -> Result<(), OpenFault>
     ensures passes { IfOk result (λ _. refusal request.now ≡ None) }
-    ensures refused { IfErr result (λ fault. (fault ≡ OpenFault.NoMemory)
-        ⊎ ((status : Status) × (refusal request.now ≡ Some status)
-        × (fault ≡ OpenFault.BadRequest status.code status.text))) }
+    ensures refused { IfErr result (IsRefusal request.now) }
 {
     if request.first && request.follow {
         return Err(refused(alloc, INVALID_ARGUMENT, "first with follow"));

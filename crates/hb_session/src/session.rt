@@ -9,10 +9,10 @@ ghost use Rattle.hb_look.specs.Limits.{largest_capacity, most_records};
 ghost use Rattle.hb_look.specs.Looks.{added};
 ghost use Rattle.hb_look.specs.Progress.{HasLooked};
 ghost use Rattle.hb_session.specs.Openings.{opened, top};
-ghost use Rattle.hb_session.specs.Refusals.{Status, refusal};
+ghost use Rattle.hb_session.specs.Refusals.{refusal, IsRefusal};
 ghost use Rattle.hb_session.specs.Stands.{counts_of};
 ghost use Rattle.hb_session.specs.Works.{IsOneLook, HasLed, HasWaited};
-ghost use Rattle.hb_session.specs.Clients.{HasHeard, IsHeardOf, heard_of, fed, Stops, is_for_client, IsInputAfter, IsStopped};
+ghost use Rattle.hb_session.specs.Clients.{unheard, HasHeard, IsHeardOf, heard_of, is_for_client, IsInputAfter, IsStoppedBy, IsStopped};
 ghost use Rattle.hb_session.specs.Sessions.{SessionStandsFor, HaveTurned, HasDone, IsNearer, IsAnswerTo, IsWrittenOf, heard_by, gained, ended_by};
 
 use crate::inbox::Inbox;
@@ -74,11 +74,10 @@ impl NodeSession {
         ensures opening { IfOk result (λ session. session.source.opening
             ≡ opened request.now name.now top cap) }
         ensures stands { IfOk result (λ session. SessionStandsFor session [] []) }
-        ensures going { IfOk result (λ session. (session.answer ≡ None) × (session.moment ≡ 0)) }
+        ensures going { IfOk result (λ session. (session.answer ≡ None) × (session.moment ≡ 0)
+            × (session.heard ≡ unheard)) }
         ensures passes { IfOk result (λ _. refusal request.now ≡ None) }
-        ensures refused { IfErr result (λ fault. (fault ≡ OpenFault.NoMemory)
-            ⊎ ((status : Status) × (refusal request.now ≡ Some status)
-            × (fault ≡ OpenFault.BadRequest status.code status.text))) }
+        ensures refused { IfErr result (IsRefusal request.now) }
     {
         check(alloc, request)?;
         let size = top.min(cap);
@@ -136,10 +135,8 @@ impl NodeSession {
             (L.shown link.old).refusals (L.shown link.new).refusals) }
 
         // What it answers, and when.
-        ensures stopped { self.old.answer ≡ None → result ≢ Turn.NoMemory
-            → self.new.heard.last ≢ Moved.Failed → (answer : Turn) → is_for_client answer ≡ true
-            → (result ≡ answer)
-            ↔ Stops (fed input.old self.new.heard.piece) self.new.heard.last answer }
+        ensures stopped { self.old.answer ≡ None
+            → IsStoppedBy input.old self.new.heard.piece self.new.heard.last result }
         ensures more { result ≡ Turn.More
             → (self.old.source.opening.request.follow ≡ false → IsNearer self.old self.new)
             × ((0 < length (gained self.old self.new))
@@ -194,7 +191,7 @@ impl NodeSession {
         self.outbox.waiting().len() as u64
     }
 
-    /// How the window was read so far.
+    /// How many records were given and passed over, and how many positions were lost, so far.
     pub fn counts(&self) -> Counts
         ensures value { result ≡ counts_of self.now.source }
     {

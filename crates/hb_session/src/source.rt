@@ -98,7 +98,7 @@ impl Source {
         self.ended
     }
 
-    /// How the window was read so far.
+    /// How many records were given and passed over, and how many positions were lost, so far.
     pub(crate) fn counts(&self) -> Counts
         ensures { result ≡ counts_of self.now }
     {

@@ -1,20 +1,20 @@
 //! The whole reply from a ring that is no longer written, by the looks of a session and by the events of
 //! its window.
-ghost use Rattle.std.specs.Prelude.{◌≡◌, ◌≤◌, ◌<◌, ℕ, List, [], length, take, true, false, IfOk};
+ghost use Rattle.std.specs.Prelude.{◌≡◌, ◌≤◌, ◌<◌, ℕ, List, [], length, take, true, false, IfOk, IfErr};
 ghost use Rattle.std.specs.List.{AllByRecursion};
 ghost use Rattle.hb_api.specs.Limits.{longest_name};
 ghost use Rattle.hb_flow.specs.declared.event.Event.{Event};
 ghost use Rattle.hb_session.specs.Events.{is_flow};
 ghost use Rattle.hb_session.specs.Openings.{Opening, opened};
+ghost use Rattle.hb_session.specs.Refusals.{IsRefusal};
 ghost use Rattle.hb_session.specs.Window.{window};
 ghost use Rattle.hb_session.specs.Whole.{IsReply, HasEvents, GivesFirst, GivesLast, passing, frames_of};
 
-use crate::{NodeSession, Turn, finish};
+use crate::{NodeSession, OpenFault, Turn, finish};
 use hb_api::GetFlowsRequest;
 use hb_edge::MemLink;
 use hb_frame::FrameReader;
 use hb_look::Look;
-use hb_wire::NoMemory;
 use std::alloc::Global;
 
 /// The moment of each look: no clock is asked.
@@ -30,34 +30,33 @@ pub fn reply_of<R: Look>(
     reader: &mut R,
     request: &GetFlowsRequest,
     name: &str,
-) -> Result<MemLink, NoMemory>
+) -> Result<MemLink, OpenFault>
     requires fresh { (R.reader reader.old).looks ≡ [] }
     requires name { length name.now ≤ longest_name }
     requires ends { request.now.follow ≡ false }
     ensures ok { IfOk result (λ link. (log : List (List ℕ)) → R.tells reader.old log
         → IsReply (opened request.now name.now (length log) (R.reader reader.old).capacity)
         (R.reader reader.old).capacity log link.taken) }
+    ensures refused { IfErr result (IsRefusal request.now) }
     ensures fixed { R.fixed reader.new ≡ R.fixed reader.old }
 {
     let top = reader.top();
-    let Ok(mut session) = NodeSession::open(alloc, request, name, top, reader.capacity()) else {
-        return Err(NoMemory);
-    };
+    let mut session = NodeSession::open(alloc, request, name, top, reader.capacity())?;
     let Ok(mut link) = MemLink::new(alloc, LINK) else {
-        return Err(NoMemory);
+        return Err(OpenFault::NoMemory);
     };
     // The client is silent.
     link.end();
     let Ok(mut input) = FrameReader::new(alloc) else {
-        return Err(NoMemory);
+        return Err(OpenFault::NoMemory);
     };
     match finish(&mut session, reader, &mut input, &mut link, MOMENT) {
         Turn::Done => Ok(link),
-        Turn::NoMemory => Err(NoMemory),
+        Turn::NoMemory => Err(OpenFault::NoMemory),
         _ => {
             // This link fails for no other cause and makes no write wait, and no look is refused.
             prove!(link.starved());
-            Err(NoMemory)
+            Err(OpenFault::NoMemory)
         }
     }
 }

@@ -1,13 +1,15 @@
 use Rattle.std.proofs.Common.{◌≡◌, ◌<◌, ℕ, List, [], ◌++◌, max, None, false, true, inl, inr, refl, sym, ap, ◌∙◌, arith, rules, subst}
+use Rattle.hb_edge.specs.declared.link.Moved.{Moved}
 use Rattle.hb_edge.proofs.Moves.{moved_none, moved_more, rose_on}
 use Rattle.hb_look.specs.Looks.{LookMade, after}
 use Rattle.hb_look.proofs.Added.{all_none, all_both, none_added}
 use Rattle.hb_look.proofs.Progress.{looked_nothing, looked_both}
+use Rattle.hb_session.specs.declared.turn.Turn.{Turn}
 use Rattle.hb_session.specs.declared.turn.Turn.TheVariants as turns
 use Rattle.hb_session.specs.Openings.{Opening}
-use Rattle.hb_session.specs.Clients.{IsFed, IsAnsweredBy}
+use Rattle.hb_session.specs.Clients.{IsFed, IsInputAfter, IsStoppedBy}
 use Rattle.hb_session.specs.Sessions.{Session, heard_by, gained, ended_by}
-use Rattle.hb_session.proofs.Clients.{fed_none, fed_both, fed_more, client_stops, answered_both, silent_still}
+use Rattle.hb_session.proofs.Clients.{fed_none, fed_both, fed_more, client_stops, after_both, stopped_both, silent_still}
 use Rattle.hb_session.proofs.Sessions.{unmoved_turned, no_answer}
 use Rattle.hb_session.proofs.Turned.{IsMadeAt, open_by, turned_more, done_more, which, not_spent, ends_with, went_on, no_fewer, made_by, spent_memory}
 use Rattle.hb_session.proofs.finishing.finish.Goals as goal
@@ -44,9 +46,12 @@ returns-then-ne-clause-turned g c =
       λ going.
           let none : s.answer ≡ None = inv.8 going in
           let here : p ≡ new.heard.piece = ap (λ x. heard_by x new.heard.piece) none in
-          subst (λ (q : List ℕ). IsAnsweredBy c.args.input.now c.turn-answer.new.input (inv.0 ++ q) new.heard.last c.turn-answer.result) (sym here)
-          (answered_both c.args.input.now c.loop-answer.input c.turn-answer.new.input inv.0 new.heard.piece _ _ inv.7 (told.heard none).1
-          (client_stops c.loop-answer.input new.heard c.turn-answer.result (told.causes none).2 (told.stopped none))),
+          let input = c.args.input.now in
+          let result : Turn = c.turn-answer.result in
+          subst (λ (q : List ℕ). IsInputAfter input c.turn-answer.new.input (inv.0 ++ q) result × IsStoppedBy input (inv.0 ++ q) new.heard.last result) (sym here) (
+            after_both input c.loop-answer.input c.turn-answer.new.input inv.0 new.heard.piece result inv.7 (told.heard none).1,
+            stopped_both input c.loop-answer.input inv.0 new.heard.piece new.heard.last result inv.7 (told.stopped none),
+          ),
       done_more _ _ _ _ _ _ inv.1 k inv.4.listed told.looked.0.listed inv.8 inv.2 told.done,
     )
 
@@ -80,7 +85,10 @@ pub returns-then-ne-clause-silent : goal.returns-then-ne-clause-silent
 returns-then-ne-clause-silent g c going empty h held dry =
     let turned = returns-then-ne-clause-turned g c in
     let front = turned.3.holds h held in
-    silent_still c.args.input.now turned.0 h.unread front.0 c.turn-answer.new.self.heard.last c.turn-answer.result empty dry front.1 (turned.4 going).1
+    let last : Moved = c.turn-answer.new.self.heard.last in
+    let none : c.loop-answer.session.answer ≡ None = c.loop-answer.invariant.8 going in
+    silent_still c.args.input.now turned.0 h.unread front.0 last c.turn-answer.result empty dry front.1
+    (client_stops c.args.input.now turned.0 last c.turn-answer.result (c.turn-answer.ensures.causes none).2 (turned.4 going).1)
 
 pub returns-then-ne-clause-causes : goal.returns-then-ne-clause-causes
 returns-then-ne-clause-causes g c going =

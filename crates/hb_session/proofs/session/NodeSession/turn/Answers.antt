@@ -1,11 +1,11 @@
-use Rattle.std.proofs.Common.{rules, ◌≡◌, ◌∙◌, List, [], None, inl, inr, refl, sym, ap, subst}
+use Rattle.std.proofs.Common.{rules, ◌≡◌, ◌∙◌, List, [], None, Some, inl, inr, refl, sym, ap, subst}
 use Rattle.hb_edge.specs.Link.{Shown}
 use Rattle.hb_edge.proofs.Moves.{moved_none}
 use Rattle.hb_look.specs.Looks.{LookMade}
 use Rattle.hb_look.proofs.Added.{none_added}
-use Rattle.hb_session.specs.Clients.{Heard, HasHeard, IsHeardOf, heard_of, IsInputFor, IsInputAfter}
-use Rattle.hb_session.specs.Sessions.{Session, heard_by}
-use Rattle.hb_session.proofs.Clients.{IsStoppedBy, is_short, some_stopped, some_short, some_fault, none_failed, none_stops, fed_after}
+use Rattle.hb_session.specs.Clients.{Heard, HasHeard, IsHeardOf, heard_of, IsInputFor, IsInputAfter, IsStoppedBy}
+use Rattle.hb_session.specs.Sessions.{Session, heard_by, ended_by}
+use Rattle.hb_session.proofs.Clients.{is_short, some_stopped, some_short, some_fault, none_failed, none_stops, fed_after}
 use Rattle.hb_session.proofs.Links.{moved_as, moved_then, written_then}
 use Rattle.hb_session.proofs.Sessions.{unmoved_turned, told_turned, none_waits, none_gained, gained_same, gained_still, not_done, no_answer}
 use Rattle.hb_session.proofs.session.NodeSession.turn.Goals as goal
@@ -21,6 +21,11 @@ pub returns-in-Some-clause-moved : goal.returns-in-Some-clause-moved
 returns-in-Some-clause-moved g c =
     moved_as g.L.Link.shown g.L.Link.held g.L.Link.after g.L.Link.fixed _ _ [] [] _ _ (search rules) (gained_same c.args.self.now)
     (moved_none g.L.Link.shown g.L.Link.held g.L.Link.after g.L.Link.fixed c.args.link.now)
+
+pub returns-in-Some-clause-more : goal.returns-in-Some-clause-more
+returns-in-Some-clause-more g c more =
+    let is : ended_by c.in-Some.answer ≡ Some c.in-Some.answer = search rules in
+    absurd (no_answer (sym (ap ended_by more) ∙ is))
 
 -- ---- it ends for what it heard
 
@@ -101,7 +106,7 @@ returns-then-is_empty-clause-heard g c going =
     let after : Shown = g.L.Link.shown c.hear.new.link in (
       subst (λ (x : Heard). HasHeard x c.look_on.new.self.heard before after) inbox (subst (λ (x : Heard). HasHeard c.self.inside.inbox x before after) (sym same) c.hear.ensures.heard),
       subst (λ (x : Heard). IsInputAfter c.args.input.now c.hear.new.input x.piece c.look_on.result) (sym same)
-          (fed_after c.args.input.now c.hear.new.input c.hear.new.self.piece c.look_on.result fed),
+          (fed_after c.args.input.now c.hear.new.input c.hear.new.self.piece c.look_on.result c.look_on.ensures.answers.2 fed),
     )
 
 pub returns-then-is_empty-clause-exact : goal.returns-then-is_empty-clause-exact
@@ -115,10 +120,10 @@ returns-then-is_empty-clause-exact g c going h held =
     )
 
 pub returns-then-is_empty-clause-stopped : goal.returns-then-is_empty-clause-stopped
-returns-then-is_empty-clause-stopped g c going not fine turn for =
+returns-then-is_empty-clause-stopped g c going =
     let same : c.look_on.new.self.heard ≡ c.hear.new.self = search rules in
-    subst (λ (x : Heard). IsStoppedBy c.args.input.now x c.look_on.result turn) (sym same)
-    (none_stops c.args.input.now c.hear.new.self c.hear.result c.look_on.result c.hear.ensures.ended (search rules) c.look_on.ensures.answers.2 turn for)
+    subst (λ (x : Heard). IsStoppedBy c.args.input.now x.piece x.last c.look_on.result) (sym same)
+    (none_stops c.args.input.now c.hear.new.self c.hear.result c.look_on.result c.hear.ensures.ended (search rules) c.look_on.ensures.answers.2)
 
 -- ---- it makes a write
 
@@ -163,7 +168,7 @@ returns-clause-exact g c going h held =
     )
 
 pub returns-clause-stopped : goal.returns-clause-stopped
-returns-clause-stopped g c going not fine turn for =
+returns-clause-stopped g c going =
     let same : c.send_on.new.self.heard ≡ c.hear.new.self = search rules in
-    subst (λ (x : Heard). IsStoppedBy c.args.input.now x c.send_on.result turn) (sym same)
-    (none_stops c.args.input.now c.hear.new.self c.hear.result c.send_on.result c.hear.ensures.ended (search rules) c.send_on.ensures.answers.2 turn for)
+    subst (λ (x : Heard). IsStoppedBy c.args.input.now x.piece x.last c.send_on.result) (sym same)
+    (none_stops c.args.input.now c.hear.new.self c.hear.result c.send_on.result c.hear.ensures.ended (search rules) c.send_on.ensures.answers.2)

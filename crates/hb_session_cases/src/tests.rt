@@ -3,9 +3,9 @@ mod node;
 mod seat;
 mod words;
 
-use crate::{NodeSession, OpenFault};
 use hb_api::GetFlowsRequest;
 use hb_cases::{Row, bytes, digits, rows};
+use hb_session::{NodeSession, OpenFault};
 use node::Node;
 use seat::replied;
 use std::alloc::Global;
@@ -423,17 +423,16 @@ fn clients_are_heard(rt: HostRuntime) -> Result<(), Fail> {
     come_out(&rt, rt.alloc(), CLIENTS)
 }
 
-/// That a session plays these steps, and that its link has then taken a front of this reply. Tells how
-/// many bytes.
+/// The session that is asked for three flows of a ring.
+const THREE: &str = "3 | 0 1 2 3 4 | all";
+
+/// That this session plays these steps, and that its link has then taken a front of this reply. Tells
+/// how many bytes.
 fn leaves_a_front(rt: &impl Abort, alloc: Global, reply: &[u8], steps: &str) -> Result<u64, Fail> {
-    let text = format!(in alloc; "3 | 0 1 2 3 4 | all | {steps}")?;
-    let row = Row { text: &text };
+    let row = Row { text: THREE };
     let mut node = Node::open(alloc, row)?;
     node.play(rt, row, steps)?;
-    let sent = node.sent().to_vec(alloc)?;
-    assert!(rt; reply.starts_with(&sent), "{row}");
-    node.stays(rt, row, &sent, "")?;
-    Ok(sent.len() as u64)
+    node.stays_in(rt, row, reply)
 }
 
 #[test]
@@ -479,13 +478,13 @@ fn inputs_come_in_pieces(rt: HostRuntime) -> Result<(), Fail> {
 
 /// What becomes of a request: it opens a session, or is refused with a code and a text.
 fn opened(alloc: Global, request: &GetFlowsRequest) -> Result<String, Fail> {
-    match NodeSession::open(alloc, request, "n1", 0, 3) {
-        Ok(_) => Ok(format!(in alloc; "opens")?),
-        Err(OpenFault::BadRequest { code, text }) => {
-            Ok(format!(in alloc; "{code} {}", text.as_str())?)
-        }
-        Err(OpenFault::NoMemory) => Err("there is memory".into()),
-    }
+    let Err(fault) = NodeSession::open(alloc, request, "n1", 0, 3) else {
+        return Ok(format!(in alloc; "opens")?);
+    };
+    let OpenFault::BadRequest { code, text } = fault else {
+        return Err("there is memory".into());
+    };
+    Ok(format!(in alloc; "{code} {}", text.as_str())?)
 }
 
 #[test]

@@ -1,10 +1,10 @@
 //! A session and its client, moved by words.
 use super::seat::{Client, Seat};
 use super::words::parted;
-use crate::{Counts, Turn};
 use hb_cases::{Row, bytes, number};
 use hb_edge::{Link, MemLink};
 use hb_frame::{FrameReader, Next};
+use hb_session::{Counts, Turn};
 use std::alloc::Global;
 use std::process::Abort;
 use std::test::Fail;
@@ -38,7 +38,7 @@ impl Node {
     }
 
     /// What the link has taken.
-    pub(crate) fn sent(&self) -> &[u8] {
+    fn sent(&self) -> &[u8] {
         self.client.link.sent()
     }
 
@@ -241,5 +241,18 @@ impl Node {
             assert_eq!(rt; self.sent(), sent, "{row}");
         }
         Ok(())
+    }
+
+    /// The same of a front of this reply. Tells how many bytes it has.
+    pub(crate) fn stays_in(
+        &mut self,
+        rt: &impl Abort,
+        row: Row<'_>,
+        reply: &[u8],
+    ) -> Result<u64, Fail> {
+        let sent = self.sent().len();
+        let front = reply.get(..sent).ok_or("no more than the reply")?;
+        self.stays(rt, row, front, "")?;
+        Ok(sent as u64)
     }
 }

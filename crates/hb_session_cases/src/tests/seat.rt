@@ -4,12 +4,12 @@ ghost use Rattle.hb_look.specs.Limits.{IsCapacity};
 ghost use Rattle.hb_listring.specs.Log.{HasLimits};
 
 use super::words::{request_of, spelled};
-use crate::{NodeSession, Turn, finish, reply_of};
 use hb_cases::{Row, number};
 use hb_edge::MemLink;
 use hb_frame::FrameReader;
 use hb_listring::{ListEye, ListReader, ListRing};
 use hb_look::{Keep, Look, Put};
+use hb_session::{NodeSession, Turn, finish, reply_of};
 use std::alloc::Global;
 use std::test::Fail;
 
