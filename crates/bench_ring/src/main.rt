@@ -12,8 +12,6 @@ mod run;
 use crate::run::{Readers, Run};
 use std::alloc::Global;
 use std::io::{ErrorKind, Print};
-use std::process::ExitCode;
-use std::rt::Env;
 use std::sync::Wait;
 use std::thread::Threads;
 use std::time::Clock;

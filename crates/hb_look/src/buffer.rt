@@ -1,5 +1,5 @@
 //! The buffer that a look fills.
-ghost use Rattle.std.specs.Prelude.{◌≡◌, ◌+◌, ◌≤◌, [], ◌++◌, length, IfOk};
+ghost use Rattle.std.specs.Prelude.{◌≡◌, ◌+◌, ◌≤◌, [], ◌++◌, length, take, IfOk};
 
 use crate::no_memory::NoMemory;
 use std::alloc::Global;
@@ -45,6 +45,13 @@ impl Record {
         ensures cleared { self.new ≡ record self.old { bytes = [] } }
     {
         self.bytes.clear();
+    }
+
+    /// Keeps so many of its first bytes.
+    pub fn truncate(&mut self, count: usize)
+        ensures kept { self.new ≡ record self.old { bytes = take count self.old.bytes } }
+    {
+        self.bytes.truncate(count);
     }
 
     /// Appends bytes for which there is room. The cost is that of a copy.

@@ -12,7 +12,7 @@ use crate::buffer::Record;
 pub enum Looked {
     /// The record is in the buffer.
     Got,
-    /// The record was overwritten, and so was each one before this position.
+    /// The record was overwritten, or is being so, and so is each one before this position.
     Gone(u64),
     /// There is no record at the position yet.
     NotYet,

@@ -16,5 +16,9 @@ fn a_buffer_of_five_bytes(rt: HostRuntime) -> Result<(), Fail> {
     assert_eq!(rt; record.bytes(), b"".as_slice());
     record.add(b"fghij");
     assert_eq!(rt; record.bytes(), b"fghij".as_slice());
+    record.truncate(6);
+    assert_eq!(rt; record.bytes(), b"fghij".as_slice());
+    record.truncate(2);
+    assert_eq!(rt; record.bytes(), b"fg".as_slice());
     Ok(())
 }

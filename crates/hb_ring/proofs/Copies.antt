@@ -2,7 +2,7 @@
 use Rattle.std.proofs.Common.{◌≡◌, ℕ, ◌+◌, ◌-◌, ◌*◌, ◌<◌, ◌≤◌, List, [], ◌∷◌, ◌++◌, length, take, drop, min, get_or, inl, inr, refl, sym, ap, ◌∙◌, subst, arith, append_assoc}
 use Rattle.std.specs.Int.{w64, to_le_bytes, from_le_bytes}
 use Rattle.std.proofs.Math.Seq.{take-add, take-append-add}
-use Rattle.std.proofs.lemmas.List.{append-nil, length-append, length-take, take_all, take_min, get_or-take, ext_get_or}
+use Rattle.std.proofs.lemmas.List.{append-nil, length-append, length-take, take_all, get_or-take, ext_get_or}
 use Rattle.std.proofs.lemmas.Bool.{cases_lt}
 use Rattle.std.proofs.lemmas.Nat.{le_bytes_8}
 use Rattle.hb_ring_rule.specs.Layout.{longest_of}
@@ -98,38 +98,31 @@ pub record IsReading (old now : Seated ReaderView) (position size : ℕ) (out : 
   pub words : List ℕ
   pub read : now ≡ record old { view = record old.view { stage = Busy position (size ∷ words) } }
   pub count : length words ≡ k
-  pub spelled : out ≡ take size (bytes_of words)
+  pub spelled : out ≡ bytes_of words
 
--- of the last word only the bytes that the record has
-pub last_bytes : (word n : ℕ) → take (min 8 n) (to_le_bytes w64 word) ≡ take n (to_le_bytes w64 word)
-last_bytes word n = let flip : min 8 n ≡ min n 8 = omega arith in ap (λ (k : ℕ). take k (to_le_bytes w64 word)) flip ∙ take_min n (to_le_bytes w64 word)
-
-pub reading_next : (old now new : Seated ReaderView) (position size word k : ℕ) (out : List ℕ) → IsReading old now position size out k → 8 * k ≤ size
-    → new ≡ record now { view = reads word now.view } → IsReading old new position size (out ++ take (min 8 (size - 8 * k)) (to_le_bytes w64 word)) (k + 1)
-reading_next old now new position size word k out reading within is =
+pub reading_next : (old now new : Seated ReaderView) (position size word k : ℕ) (out : List ℕ) → IsReading old now position size out k
+    → new ≡ record now { view = reads word now.view } → IsReading old new position size (out ++ to_le_bytes w64 word) (k + 1)
+reading_next old now new position size word k out reading is =
     let words : List ℕ = reading.words in
     let count : length words ≡ k = reading.count in
     let longer = length-append words (word ∷ []) in record {
       words = words ++ word ∷ [];
       read = is ∙ ap (λ (n : Seated ReaderView). record n { view = reads word n.view }) reading.read;
       count = omega (arith, longer, count);
-      spelled = ap (λ (front : List ℕ). front ++ take (min 8 (size - 8 * k)) (to_le_bytes w64 word)) reading.spelled
-          ∙ ap (λ (back : List ℕ). take size (bytes_of words) ++ back) (last_bytes word (size - 8 * k) ∙ ap (λ (n : ℕ). take (size - 8 * n) (to_le_bytes w64 word)) (sym count))
-          ∙ sym (take_push words word size (omega (arith, count, within)));
+      spelled = ap (λ (front : List ℕ). front ++ to_le_bytes w64 word) reading.spelled ∙ sym (bytes_of_push words word);
     }
 
-pub has_read : (old now : Seated ReaderView) (position size k : ℕ) (out : List ℕ) → IsReading old now position size out k → k ≡ words_for size → HasRead old now position out
+pub has_read : (old now : Seated ReaderView) (position size k : ℕ) (out : List ℕ) → IsReading old now position size out k → k ≡ words_for size → HasRead old now position (take size out)
 has_read old now position size k out reading all = record {
   words = size ∷ reading.words;
   read = reading.read;
   count = let count = reading.count in omega (arith, count, all);
-  spells = sym reading.spelled;
+  spells = ap (take size) (sym reading.spelled);
 }
 
--- no more bytes than the record has
-pub reading_size : (old now : Seated ReaderView) (position size k : ℕ) (out : List ℕ) → IsReading old now position size out k → 8 * k ≤ size → length out ≡ 8 * k
-reading_size old now position size k out reading within =
+-- as many bytes as the words have
+pub reading_size : (old now : Seated ReaderView) (position size k : ℕ) (out : List ℕ) → IsReading old now position size out k → length out ≡ 8 * k
+reading_size old now position size k out reading =
     let long = length_bytes_of reading.words in
-    let cut = length-take size (bytes_of reading.words) in
     let same = ap length reading.spelled in
-    let count = reading.count in omega (arith, long, cut, same, count, within)
+    let count = reading.count in omega (arith, long, same, count)

@@ -193,9 +193,9 @@ impl Ring {
         let start = self.table.slot_at(position);
         let bytes = self.table.load_word(seat, start) as usize;
         for k in 0..bytes.div_ceil(WORD) {
-            let word = self.table.load_word(seat, start + 1 + k).to_le_bytes();
-            out.add(&word[..WORD.min(bytes - WORD * k)]);
+            out.add(&self.table.load_word(seat, start + 1 + k).to_le_bytes());
         }
+        out.truncate(bytes);
     }
 
     /// Loads how many records are finished, which is the position of the next one. It makes no look.
@@ -236,10 +236,13 @@ fn word_of(bytes: &[u8], from: usize) -> u64
     ensures { take (length bytes.now - from) (to_le_bytes w64 result)
         ≡ take 8 (drop from bytes.now) }
 {
-    let mut word = [0; WORD];
     let rest = &bytes[from..];
-    for k in 0..WORD.min(rest.len()) {
-        word[k] = rest[k];
+    match rest.first_chunk() {
+        Some(word) => u64::from_le_bytes(*word),
+        None => {
+            let mut word = [0; WORD];
+            word[..rest.len()].copy_from_slice(rest);
+            u64::from_le_bytes(word)
+        }
     }
-    u64::from_le_bytes(word)
 }
