@@ -1,12 +1,18 @@
 //! Sessions over a ring and a link in memory, as tables of text that were worked out by hand.
+mod list_place;
 mod node;
+mod place;
+mod ring_place;
 mod seat;
 mod words;
 
 use hb_api::GetFlowsRequest;
 use hb_cases::{Row, bytes, digits, rows};
 use hb_session::{NodeSession, OpenFault};
+use list_place::ListPlace;
 use node::Node;
+use place::Place;
+use ring_place::RingPlace;
 use seat::replied;
 use std::alloc::Global;
 use std::process::Abort;
@@ -371,7 +377,7 @@ const REFUSALS: &str = "
 ";
 
 /// That the session of a case plays these steps, and that this is then its output and these its counts.
-fn comes_out(
+fn comes_out<P: Place>(
     rt: &impl Abort,
     alloc: Global,
     row: Row<'_>,
@@ -379,26 +385,38 @@ fn comes_out(
     output: &[u8],
     counts: &str,
 ) -> Result<(), Fail> {
-    let mut node = Node::open(alloc, row)?;
+    let mut node: Node<P> = Node::open(alloc, row)?;
     node.play(rt, row, steps)?;
     node.stays(rt, row, output, counts)
 }
 
-/// That each case of a table comes out as it says.
+/// That each case of a table comes out as it says, over either ring.
 fn come_out(rt: &impl Abort, alloc: Global, table: &str) -> Result<(), Fail> {
     for row in &rows(alloc, table)? {
         let output = frames_of(alloc, row.cell(4))?;
-        comes_out(rt, alloc, *row, row.cell(3), &output, row.cell(5))?;
+        comes_out::<ListPlace>(rt, alloc, *row, row.cell(3), &output, row.cell(5))?;
+        comes_out::<RingPlace>(rt, alloc, *row, row.cell(3), &output, row.cell(5))?;
     }
     Ok(())
+}
+
+/// That a window is answered at once by this, and that a session does so, with these counts.
+fn is_answered<P: Place>(
+    rt: &impl Abort,
+    alloc: Global,
+    row: Row<'_>,
+    output: &[u8],
+) -> Result<(), Fail> {
+    assert!(rt; replied::<P>(alloc, row)?.as_slice() == output, "{row}");
+    comes_out::<P>(rt, alloc, row, "done", output, row.cell(4))
 }
 
 #[test]
 fn windows_are_answered(rt: HostRuntime) -> Result<(), Fail> {
     for row in &rows(rt.alloc(), WINDOWS)? {
         let output = frames_of(rt.alloc(), row.cell(3))?;
-        assert!(rt; replied(rt.alloc(), *row)? == output, "{row}");
-        comes_out(&rt, rt.alloc(), *row, "done", &output, row.cell(4))?;
+        is_answered::<ListPlace>(&rt, rt.alloc(), *row, &output)?;
+        is_answered::<RingPlace>(&rt, rt.alloc(), *row, &output)?;
     }
     Ok(())
 }
@@ -430,7 +448,7 @@ const THREE: &str = "3 | 0 1 2 3 4 | all";
 /// how many bytes.
 fn leaves_a_front(rt: &impl Abort, alloc: Global, reply: &[u8], steps: &str) -> Result<u64, Fail> {
     let row = Row { text: THREE };
-    let mut node = Node::open(alloc, row)?;
+    let mut node: Node<ListPlace> = Node::open(alloc, row)?;
     node.play(rt, row, steps)?;
     node.stays_in(rt, row, reply)
 }

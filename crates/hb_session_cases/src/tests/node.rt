@@ -1,5 +1,6 @@
 //! A session and its client, moved by words.
-use super::seat::{Client, Seat};
+use super::place::{Client, Place};
+use super::seat::Seat;
 use super::words::parted;
 use hb_cases::{Row, bytes, number};
 use hb_edge::{Link, MemLink};
@@ -13,17 +14,17 @@ const SECOND: u64 = 1_000_000_000;
 
 /// A session, its client, what it answered last, and how many looks it has made.
 #[derive(Drop)]
-pub(crate) struct Node {
+pub(crate) struct Node<P: Place> {
     alloc: Global,
-    seat: Seat,
+    seat: Seat<P>,
     client: Client,
     answer: Turn,
     looked: u64,
 }
 
-impl Node {
+impl<P: Place> Node<P> {
     /// The session of the first three cells of a case. Its client is silent, and may go on.
-    pub(crate) fn open(alloc: Global, row: Row<'_>) -> Result<Node, Fail> {
+    pub(crate) fn open(alloc: Global, row: Row<'_>) -> Result<Node<P>, Fail> {
         Ok(Node {
             alloc,
             seat: Seat::open(alloc, row)?,

@@ -1,19 +1,15 @@
-//! A session at a ring: what has facts that are not shown by running, behind few functions.
-ghost use Rattle.std.specs.Prelude.{◌≡◌, ◌+◌, ◌≤◌, IfSome, IfOk};
+//! A session at a place: what has facts that are not shown by running, behind few functions.
+ghost use Rattle.std.specs.Prelude.{◌≡◌, ◌≤◌, IfSome};
 ghost use Rattle.hb_look.specs.Limits.{IsCapacity};
-ghost use Rattle.hb_listring.specs.Log.{HasLimits};
+ghost use Rattle.hb_session.specs.Openings.{top};
 
+use super::place::{Client, NAME, Place};
 use super::words::{request_of, spelled};
 use hb_cases::{Row, number};
-use hb_edge::MemLink;
-use hb_frame::FrameReader;
-use hb_listring::{ListEye, ListReader, ListRing};
-use hb_look::{Keep, Look, Put};
-use hb_session::{NodeSession, Turn, finish, reply_of};
+use hb_look::Put;
+use hb_session::{NodeSession, Turn};
 use std::alloc::Global;
 use std::test::Fail;
-
-const SLOT: usize = 64;
 
 /// A capacity of a ring.
 fn capacity_of(text: &str) -> Option<u64>
@@ -28,12 +24,11 @@ fn capacity_of(text: &str) -> Option<u64>
 }
 
 /// Puts a record so many times.
-fn put_times(ring: &mut ListRing, record: &[u8], times: u8) -> Result<(), Fail>
-    ensures grows { ring.old.written ≤ ring.new.written }
-    ensures limits { HasLimits ring.old → HasLimits ring.new }
+fn put_times<P: Place>(place: &mut P, record: &[u8], times: u8) -> Result<(), Fail>
+    ensures seen { P.seen place.new ≡ P.seen place.old }
 {
     for _ in 0..times {
-        if ring.put(record) != Put::Done {
+        if place.put(record) != Put::Done {
             return Err("a record is put".into());
         }
     }
@@ -41,78 +36,52 @@ fn put_times(ring: &mut ListRing, record: &[u8], times: u8) -> Result<(), Fail>
 }
 
 /// Puts the records of these words, in order: of `9*3` three times.
-fn put_all(ring: &mut ListRing, alloc: Global, words: &str) -> Result<(), Fail>
-    ensures grows { ring.old.written ≤ ring.new.written }
-    ensures limits { HasLimits ring.old → HasLimits ring.new }
+fn put_all<P: Place>(place: &mut P, alloc: Global, words: &str) -> Result<(), Fail>
+    ensures seen { P.seen place.new ≡ P.seen place.old }
 {
     for word in words.split_whitespace() {
         let (word, times) = word.split_once('*').unwrap_or((word, "1"));
-        put_times(ring, &spelled(alloc, word, 1)?, number(times)?)?;
+        put_times(place, &spelled(alloc, word, 1)?, number(times)?)?;
     }
     Ok(())
 }
 
-/// The ring of the first two cells of a case: its capacity, and what was put into it.
-fn ring_of(alloc: Global, row: Row<'_>) -> Result<ListRing, Fail>
-    ensures { IfOk result HasLimits }
-{
+/// The place of the first two cells of a case: its ring's capacity, and what was put into it.
+fn place_of<P: Place>(alloc: Global, row: Row<'_>) -> Result<P, Fail> {
     let capacity = capacity_of(row.cell(0)).ok_or("a capacity")?;
-    let mut ring = ListRing::open(alloc, capacity, SLOT)?;
-    put_all(&mut ring, alloc, row.cell(1))?;
-    Ok(ring)
+    let mut place = P::open(alloc, capacity)?;
+    put_all(&mut place, alloc, row.cell(1))?;
+    Ok(place)
 }
 
-/// The whole reply of the ring of a case to what is asked, which does not follow.
-pub(crate) fn replied(alloc: Global, row: Row<'_>) -> Result<Vec<u8>, Fail> {
-    let ring = ring_of(alloc, row)?;
-    let mut reader = ListReader::new(alloc)?;
-    let mut eye = ListEye {
-        reader: &mut reader,
-        ring: &ring,
-    };
+/// The whole reply of the place of a case to what is asked, which does not follow.
+pub(crate) fn replied<P: Place>(alloc: Global, row: Row<'_>) -> Result<Vec<u8>, Fail> {
+    let mut place: P = place_of(alloc, row)?;
     let mut request = request_of(alloc, row.cell(2))?;
     request.follow = false;
-    let link = reply_of(alloc, &mut eye, &request, "n1")?;
+    let link = place.reply(alloc, &request)?;
     Ok(link.sent().to_vec(alloc)?)
 }
 
-/// What a client is to a session, and the moment of its turns.
+/// A place, and one session at it.
 #[derive(Drop)]
-pub(crate) struct Client {
-    pub(crate) input: FrameReader,
-    pub(crate) link: MemLink,
-    pub(crate) moment: u64,
-}
-
-/// A ring, and one session at it.
-#[derive(Drop)]
-pub(crate) struct Seat {
-    ring: ListRing,
-    reader: ListReader,
+pub(crate) struct Seat<P: Place> {
+    place: P,
     pub(crate) session: NodeSession,
     follow: bool,
-    ghost within: { reader.seen ≤ ring.written },
-    ghost limits: { HasLimits ring },
-    ghost seen: { session.source.opening.low + session.source.opening.size ≤ reader.seen },
+    ghost seen: { top session.source.opening ≤ P.seen place },
     ghost follows: { session.source.opening.request.follow ≡ follow },
 }
 
-impl Seat {
+impl<P: Place> Seat<P> {
     /// The session of the first three cells of a case: it is opened at what the ring has now.
-    pub(crate) fn open(alloc: Global, row: Row<'_>) -> Result<Seat, Fail> {
-        let ring = ring_of(alloc, row)?;
-        let mut reader = ListReader::new(alloc)?;
-        let mut eye = ListEye {
-            reader: &mut reader,
-            ring: &ring,
-        };
-        let top = eye.top();
-        let cap = eye.capacity();
+    pub(crate) fn open(alloc: Global, row: Row<'_>) -> Result<Seat<P>, Fail> {
+        let mut place: P = place_of(alloc, row)?;
+        let (top, cap) = place.limits();
         let request = request_of(alloc, row.cell(2))?;
-        let session = NodeSession::open(alloc, &request, "n1", top, cap)?;
+        let session = NodeSession::open(alloc, &request, NAME, top, cap)?;
         Ok(Seat {
-            ring,
-            reader,
+            place,
             session,
             follow: request.follow,
         })
@@ -120,22 +89,12 @@ impl Seat {
 
     /// Puts the records of these words.
     pub(crate) fn put(&mut self, alloc: Global, words: &str) -> Result<(), Fail> {
-        put_all(&mut self.ring, alloc, words)
+        put_all(&mut self.place, alloc, words)
     }
 
     /// Turns the session once. Tells its answer, and how many looks were made so far.
     pub(crate) fn turn(&mut self, client: &mut Client) -> (Turn, u64) {
-        let mut eye = ListEye {
-            reader: &mut self.reader,
-            ring: &self.ring,
-        };
-        let answer = self.session.turn(
-            &mut eye,
-            &mut client.input,
-            &mut client.link,
-            client.moment,
-        );
-        (answer, eye.looked())
+        self.place.turn(&mut self.session, client)
     }
 
     /// The same of a session that does not follow, which is turned to its end.
@@ -143,17 +102,6 @@ impl Seat {
         if self.follow {
             return Err("a session that ends".into());
         }
-        let mut eye = ListEye {
-            reader: &mut self.reader,
-            ring: &self.ring,
-        };
-        let answer = finish(
-            &mut self.session,
-            &mut eye,
-            &mut client.input,
-            &mut client.link,
-            client.moment,
-        );
-        Ok((answer, eye.looked()))
+        Ok(self.place.finish(&mut self.session, client))
     }
 }

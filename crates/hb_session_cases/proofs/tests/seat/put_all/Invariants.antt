@@ -1,7 +1,6 @@
--- no record that was put is taken back, and the ring's limits stay
-use Rattle.std.proofs.Common.{◌≤◌}
-use Rattle.hb_listring.specs.Log.{HasLimits}
+-- what the reader has seen stays
+use Rattle.std.proofs.Common.{◌≡◌}
 use Rattle.hb_session_cases.proofs.tests.seat.put_all.Given as goal
 
 abbrev pub invariant-loop-word : goal.invariant-loop-word
-invariant-loop-word l = (l.initial.ring.written ≤ l.ring.written) × (HasLimits l.initial.ring → HasLimits l.ring)
+invariant-loop-word g l = g.P.Place.seen l.place ≡ g.P.Place.seen l.initial.place
