@@ -26,6 +26,8 @@ impl<'a> Look for ListEye<'a> {
 
     ghost tells = { λ eye log. StandsFor eye.ring.now log };
 
+    ghost takes_memory = { λ eye. Unit {0} };
+
     ghost Fixed = { Kept × ℕ };
 
     ghost fixed = { λ eye. (eye.ring.now, eye.reader.ghost_name) };

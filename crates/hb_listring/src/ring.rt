@@ -122,6 +122,8 @@ impl Keep for ListRing {
 
     ghost longest = { λ r. r.slot };
 
+    ghost takes_memory = { λ r. Unit {0} };
+
     ghost Fixed = { ℕ × ℕ };
 
     ghost fixed = { λ r. (r.capacity, r.slot) };

@@ -29,6 +29,9 @@ pub trait Keep {
     /// The most bytes of a record.
     ghost longest: { Self → ℕ };
 
+    /// Its puts may want memory. Those of a writer that takes none never do.
+    ghost takes_memory: { Self → Type 0 };
+
     /// What no call changes: the loans that it holds, and the ring's other limits.
     ghost Fixed: { Type 0 };
 
@@ -41,7 +44,8 @@ pub trait Keep {
         ensures too_long { (result ≡ Put.TooLong) ↔ (longest self.old < length bytes.now) }
         ensures spent { (result ≡ Put.Spent)
             ↔ ((length bytes.now ≤ longest self.old) × (written self.old ≡ most_records)) }
-        ensures kept { result ≢ Put.Done → self.new ≡ self.old };
+        ensures kept { result ≢ Put.Done → self.new ≡ self.old }
+        ensures memory { result ≡ Put.NoMemory → takes_memory self.old };
 
     /// The number of records is the log's length.
     ghost counts: { (w : Self) (log : List (List ℕ)) → stands_for w log → length log ≡ written w };

@@ -33,6 +33,9 @@ pub trait Look {
     /// It tells that the log of its ring is this. A reader may tell nothing.
     ghost tells: { Self → List (List ℕ) → Type 0 };
 
+    /// Its looks may want memory. Those of a reader that takes none never do.
+    ghost takes_memory: { Self → Type 0 };
+
     /// What no call changes: the loans that it holds.
     ghost Fixed: { Type 0 };
 
@@ -57,6 +60,7 @@ pub trait Look {
             × ((reader self.new).begun.count ≤ most_records) }
         ensures no_memory { result ≡ Looked.NoMemory
             → (reader self.new ≡ reader self.old) × (out.new ≡ out.old) }
+        ensures memory { result ≡ Looked.NoMemory → takes_memory self.old }
         ensures room { out.new.room ≡ out.old.room };
 
     /// Loads how many records are finished, which is the position of the next one.

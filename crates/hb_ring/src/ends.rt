@@ -22,6 +22,8 @@ impl<'a> Look for RingEye<'a> {
 
     ghost tells = { λ eye log. ⊥ };
 
+    ghost takes_memory = { λ eye. ⊥ };
+
     ghost Fixed = { Laid × ℕ };
 
     ghost fixed = { λ eye. (eye.ring.now, eye.pass.ghost_name) };
@@ -65,6 +67,8 @@ impl<'a> Keep for RingPen<'a> {
     ghost written = { λ pen. length pen.pass.now.log };
 
     ghost longest = { λ pen. longest_of pen.ring.now.shape };
+
+    ghost takes_memory = { λ pen. ⊥ };
 
     ghost Fixed = { Laid × ℕ };
 

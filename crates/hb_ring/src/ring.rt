@@ -148,7 +148,8 @@ impl Ring {
 
     /// Looks at a position, at a moment in nanoseconds since 1970-01-01T00:00:00Z. A record that is
     /// there is put into the buffer, in the place of what it holds; after another answer the buffer
-    /// may hold anything. It takes no memory and no lock, and waits for no writer. The cost is a load for each word of the record and three more.
+    /// may hold anything. It takes no memory and no lock, and waits for no writer. The cost is a load
+    /// for each word of the record and three more.
     pub fn look(
         &self,
         pass: &mut ReaderPass,

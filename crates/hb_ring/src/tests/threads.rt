@@ -11,8 +11,7 @@ const RECORDS: u64 = 10_000;
 /// How many looks a reader makes at most, before it gives up.
 const LOOKS: u64 = 200_000_000;
 
-/// The bytes of the record at a position: the position, as often as fits with the length that it
-/// tells.
+/// The bytes of the record at a position, and some more: those of the position, twice.
 fn record_at(position: u64) -> [u8; 16] {
     let word = position.to_le_bytes();
     let mut bytes = [0; 16];
@@ -22,7 +21,7 @@ fn record_at(position: u64) -> [u8; 16] {
     bytes
 }
 
-/// How many bytes of them the record has.
+/// How many of these bytes the record has.
 fn length_at(position: u64) -> usize
     ensures { result ≤ 16 }
 {
@@ -30,14 +29,37 @@ fn length_at(position: u64) -> usize
 }
 
 /// What a reader's looks came to.
-#[derive(Clone, Copy, Debug, PartialEq, Eq)]
+#[derive(Clone, Copy, Debug, Default, PartialEq, Eq)]
 struct Tally {
     /// Where it looks next.
     next: u64,
     got: u64,
     gone: u64,
-    /// Records that did not name their own position, and answers that went back.
+    /// Records that did not name their own position, and answers that went back or want memory.
     wrong: u64,
+}
+
+impl Tally {
+    /// Counts what one look found.
+    fn add(&mut self, looked: Looked, bytes: &[u8]) {
+        let is_wrong = match looked {
+            Looked::Got => {
+                let is_own = bytes == &record_at(self.next)[..length_at(self.next)];
+                self.got = self.got.saturating_add(1);
+                self.next = self.next.saturating_add(1);
+                !is_own
+            }
+            Looked::Gone(to) => {
+                let is_back = to <= self.next;
+                self.gone = self.gone.saturating_add(to.saturating_sub(self.next));
+                self.next = to;
+                is_back
+            }
+            Looked::NotYet => false,
+            Looked::NoMemory => true,
+        };
+        self.wrong = self.wrong.saturating_add(u64::from(is_wrong));
+    }
 }
 
 /// A reader, with a buffer for the ring's longest record.
@@ -74,58 +96,19 @@ fn write_all(ring: &Ring, mut pass: WriterPass) -> WriterPass
     pass
 }
 
-/// Counts what one look found.
-fn add(tally: Tally, looked: Looked, bytes: &[u8]) -> Tally {
-    let Tally {
-        next,
-        got,
-        gone,
-        wrong,
-    } = tally;
-    match looked {
-        Looked::Got => {
-            let is_own = bytes == &record_at(next)[..length_at(next)];
-            Tally {
-                next: next.saturating_add(1),
-                got: got.saturating_add(1),
-                gone,
-                wrong: wrong.saturating_add(u64::from(!is_own)),
-            }
-        }
-        Looked::Gone(to) => Tally {
-            next: to,
-            got,
-            gone: gone.saturating_add(to.saturating_sub(next)),
-            wrong: wrong.saturating_add(u64::from(to <= next)),
-        },
-        Looked::NotYet => tally,
-        Looked::NoMemory => Tally {
-            next,
-            got,
-            gone,
-            wrong: wrong.saturating_add(1),
-        },
-    }
-}
-
 /// Reads on until every record was written and read, or overwritten.
 fn read_all(ring: &Ring, watcher: Watcher) -> Watched
     requires pass { IsReaderOf ring.now watcher.pass }
     ensures pass { IsReaderOf ring.now result.pass }
 {
     let Watcher { mut pass, mut out } = watcher;
-    let mut tally = Tally {
-        next: 0,
-        got: 0,
-        gone: 0,
-        wrong: 0,
-    };
+    let mut tally = Tally::default();
     for _ in 0..LOOKS {
         if tally.next >= RECORDS || pass.looked() == MOST_RECORDS {
             break;
         }
         let looked = ring.look(&mut pass, tally.next, 0, &mut out);
-        tally = add(tally, looked, out.bytes());
+        tally.add(looked, out.bytes());
     }
     Watched { pass, tally }
 }

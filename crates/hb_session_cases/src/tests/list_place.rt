@@ -2,12 +2,12 @@
 ghost use Rattle.std.specs.Prelude.{◌≤◌};
 ghost use Rattle.hb_listring.specs.Log.{HasLimits};
 
-use super::place::{Client, NAME, Place, SLOT};
+use super::place::{Client, NAME, Place, SLOT, finish_at, turn_at};
 use hb_api::GetFlowsRequest;
 use hb_edge::MemLink;
 use hb_listring::{ListEye, ListReader, ListRing};
 use hb_look::{Keep, Look, Put};
-use hb_session::{NodeSession, OpenFault, Turn, finish, reply_of};
+use hb_session::{NodeSession, OpenFault, Turn, reply_of};
 use std::alloc::Global;
 use std::test::Fail;
 
@@ -58,8 +58,7 @@ impl Place for ListPlace {
             reader: &mut self.reader,
             ring: &self.ring,
         };
-        let answer = session.turn(&mut eye, &mut client.input, &mut client.link, client.moment);
-        (answer, eye.looked())
+        turn_at(&mut eye, session, client)
     }
 
     fn finish(&mut self, session: &mut NodeSession, client: &mut Client) -> (Turn, u64) {
@@ -67,13 +66,6 @@ impl Place for ListPlace {
             reader: &mut self.reader,
             ring: &self.ring,
         };
-        let answer = finish(
-            session,
-            &mut eye,
-            &mut client.input,
-            &mut client.link,
-            client.moment,
-        );
-        (answer, eye.looked())
+        finish_at(&mut eye, session, client)
     }
 }

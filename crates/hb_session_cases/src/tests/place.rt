@@ -1,13 +1,14 @@
 //! What a session is played at: a ring, with its writer and one reader.
 ghost use Rattle.std.specs.Prelude.{◌≡◌, ◌≤◌, false};
 ghost use Rattle.hb_look.specs.Limits.{most_records, largest_capacity, IsCapacity};
+ghost use Rattle.hb_look.specs.Progress.{HasLooked};
 ghost use Rattle.hb_session.specs.Openings.{top};
 
 use hb_api::GetFlowsRequest;
 use hb_edge::MemLink;
 use hb_frame::FrameReader;
-use hb_look::Put;
-use hb_session::{NodeSession, OpenFault, Turn};
+use hb_look::{Look, Put};
+use hb_session::{NodeSession, OpenFault, Turn, finish};
 use std::alloc::Global;
 use std::test::Fail;
 
@@ -63,4 +64,39 @@ pub(crate) trait Place: Drop {
         requires ends { session.old.source.opening.request.follow ≡ false }
         ensures seen { seen self.old ≤ seen self.new }
         ensures opening { session.new.source.opening ≡ session.old.source.opening };
+}
+
+/// Turns a session once, over whatever reader.
+pub(crate) fn turn_at<R: Look>(
+    eye: &mut R,
+    session: &mut NodeSession,
+    client: &mut Client,
+) -> (Turn, u64)
+    requires seen { top session.old.source.opening ≤ (R.reader eye.old).finished.count }
+    ensures looked { HasLooked R.reader R.tells R.fixed eye.old eye.new }
+    ensures opening { session.new.source.opening ≡ session.old.source.opening }
+{
+    let answer = session.turn(eye, &mut client.input, &mut client.link, client.moment);
+    (answer, eye.looked())
+}
+
+/// Turns a session to its end, over whatever reader.
+pub(crate) fn finish_at<R: Look>(
+    eye: &mut R,
+    session: &mut NodeSession,
+    client: &mut Client,
+) -> (Turn, u64)
+    requires seen { top session.old.source.opening ≤ (R.reader eye.old).finished.count }
+    requires ends { session.old.source.opening.request.follow ≡ false }
+    ensures looked { HasLooked R.reader R.tells R.fixed eye.old eye.new }
+    ensures opening { session.new.source.opening ≡ session.old.source.opening }
+{
+    let answer = finish(
+        session,
+        eye,
+        &mut client.input,
+        &mut client.link,
+        client.moment,
+    );
+    (answer, eye.looked())
 }

@@ -1,12 +1,12 @@
 //! A ring over threads.
 ghost use Rattle.hb_ring.specs.Passes.{IsWriterOf, IsReaderOf};
 
-use super::place::{Client, NAME, Place, SLOT};
+use super::place::{Client, NAME, Place, SLOT, finish_at, turn_at};
 use hb_api::GetFlowsRequest;
 use hb_edge::MemLink;
 use hb_look::{Keep, Look, Put};
 use hb_ring::{ReaderPass, Ring, RingEye, RingPen, WriterPass};
-use hb_session::{NodeSession, OpenFault, Turn, finish, reply_of};
+use hb_session::{NodeSession, OpenFault, Turn, reply_of};
 use std::alloc::Global;
 use std::test::Fail;
 
@@ -63,8 +63,7 @@ impl Place for RingPlace {
             ring: &self.ring,
             pass: &mut self.reader,
         };
-        let answer = session.turn(&mut eye, &mut client.input, &mut client.link, client.moment);
-        (answer, eye.looked())
+        turn_at(&mut eye, session, client)
     }
 
     fn finish(&mut self, session: &mut NodeSession, client: &mut Client) -> (Turn, u64) {
@@ -72,13 +71,6 @@ impl Place for RingPlace {
             ring: &self.ring,
             pass: &mut self.reader,
         };
-        let answer = finish(
-            session,
-            &mut eye,
-            &mut client.input,
-            &mut client.link,
-            client.moment,
-        );
-        (answer, eye.looked())
+        finish_at(&mut eye, session, client)
     }
 }
