@@ -2,7 +2,7 @@
 use Rattle.std.specs.Prelude.{◌≡◌, ◌⊎◌, ℕ, List, Option, None, ◌==◌, if◌then◌else◌}
 use Rattle.hb_flow.specs.Faults.{Check, message_fault, stamp_check}
 use Rattle.hb_flow.specs.AllFaults.{Inside, InMessage, InStamp}
-use Rattle.hb_flow.specs.declared.fault.DecodeFault.{DecodeFault}
+use Rattle.hb_schema.specs.declared.fault.DecodeFault.{DecodeFault}
 
 -- what is wrong in the body of a GetFlowsRequest's field: of since or until
 unfoldable pub request_check : Check

@@ -3,7 +3,7 @@ ghost use Rattle.std.specs.Prelude.{◌≡◌, ◌<◌, ◌≤◌, ◌^◌, ℕ,
 ghost use Rattle.hb_wire.specs.Varint.{AreBytes};
 ghost use Rattle.hb_flow.specs.Fields.{parts};
 ghost use Rattle.hb_flow.specs.AllFaults.{place_of};
-ghost use Rattle.hb_flow.specs.declared.fault.DecodeFault.{DecodeFault};
+ghost use Rattle.hb_schema.specs.declared.fault.DecodeFault.{DecodeFault};
 ghost use Rattle.hb_api.specs.declared.request.GetFlowsRequest.{GetFlowsRequest};
 ghost use Rattle.hb_api.specs.Faults.{request_fault, HasFault};
 ghost use Rattle.hb_api.specs.Requests.{RequestFits, request_bytes, read_request, have_mask, is_masked};

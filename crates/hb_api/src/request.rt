@@ -5,9 +5,8 @@ ghost use Rattle.hb_api.specs.Requests.{request_bytes};
 ghost use Rattle.hb_api.specs.Steps.{request_after};
 
 use crate::mask::have_mask;
-use hb_flow::{
-    DecodeFault, Message, keep_unknown, merge, merge_stamp, put_number, put_optional, put_unknown,
-};
+use hb_flow::{Message, keep_unknown, merge, merge_stamp, put_number, put_optional, put_unknown};
+use hb_schema::DecodeFault;
 use hb_time::Stamp;
 use hb_wire::{Field, NoMemory, Seq};
 use std::alloc::Global;

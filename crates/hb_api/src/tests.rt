@@ -5,7 +5,7 @@
 
 use super::*;
 use hb_cases::{bytes, digits, number, rows};
-use hb_flow::DecodeFault;
+use hb_schema::DecodeFault;
 use hb_time::Stamp;
 use std::alloc::Global;
 use std::process::Abort;

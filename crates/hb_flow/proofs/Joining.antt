@@ -9,7 +9,7 @@ use Rattle.hb_wire.specs.Reading.{field_at}
 use Rattle.hb_wire.proofs.FieldLemmas.{field_front, field_reads, AreBytes_drop, AreBytes_take}
 use Rattle.hb_flow.specs.Fields.{Part, parts_of, parts}
 use Rattle.hb_flow.specs.Faults.{Check, content_fault, first_fault, message_fault}
-use Rattle.hb_flow.specs.declared.fault.DecodeFault.{DecodeFault}
+use Rattle.hb_schema.specs.declared.fault.DecodeFault.{DecodeFault}
 use Rattle.hb_flow.proofs.Loop.{parts_nil, parts_after, fault_here}
 
 -- what reading finds at the front: a field or none

@@ -10,8 +10,8 @@ use Rattle.hb_wire.proofs.FieldLemmas.{field_front}
 use Rattle.hb_flow.specs.Fields.{parts_of}
 use Rattle.hb_flow.specs.Faults.{Check, content_fault, first_fault, message_fault, text_fault, stamp_check, flow_check, int32_value_check, lost_event_check, lost_event_fault, response_check, response_fault}
 use Rattle.hb_flow.specs.AllFaults.{Inside, InContent, InParts, InMessage, InText, InStamp, InFlow, InInt32Value, InLostEvent, InResponse, HasFault, HasLostEventFault, place_of}
-use Rattle.hb_flow.specs.declared.fault.DecodeFault.{DecodeFault}
-use Rattle.hb_flow.specs.declared.fault.DecodeFault.TheVariants.{Malformed, BadUtf8}
+use Rattle.hb_schema.specs.declared.fault.DecodeFault.{DecodeFault}
+use Rattle.hb_schema.specs.declared.fault.DecodeFault.TheVariants.{Malformed, BadUtf8}
 use Rattle.hb_flow.proofs.Loop.{field_at_nil}
 use Rattle.hb_flow.proofs.Joining.{Found, Nothing, read_as}
 

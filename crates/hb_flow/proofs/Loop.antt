@@ -6,8 +6,8 @@ use Rattle.hb_wire.specs.Field.{Piece}
 use Rattle.hb_wire.specs.Reading.{field_at, varint_at, varint_from}
 use Rattle.hb_flow.specs.Fields.{Part, parts_of}
 use Rattle.hb_flow.specs.Faults.{Check, content_fault, first_fault, Answers}
-use Rattle.hb_flow.specs.declared.fault.DecodeFault.{DecodeFault}
-use Rattle.hb_flow.specs.declared.fault.DecodeFault.TheVariants.{Malformed, BadUtf8, NoMemory}
+use Rattle.hb_schema.specs.declared.fault.DecodeFault.{DecodeFault}
+use Rattle.hb_schema.specs.declared.fault.DecodeFault.TheVariants.{Malformed, BadUtf8, NoMemory}
 
 -- no field starts at the end of the bytes
 pub field_at_nil : field_at [] ≡ None

@@ -3,7 +3,7 @@ use Rattle.std.proofs.Common.{◌≡◌, ℕ, List, Bool, true, false, Some, Non
 use Rattle.std.specs.Str.{IsUtf8, is_utf8}
 use Rattle.std.proofs.lemmas.Str.{IsUtf8-from_is_utf8, is_utf8-from_IsUtf8}
 use Rattle.hb_flow.specs.Faults.{text_fault}
-use Rattle.hb_flow.specs.declared.fault.DecodeFault.TheVariants.{BadUtf8}
+use Rattle.hb_schema.specs.declared.fault.DecodeFault.TheVariants.{BadUtf8}
 
 pub no_text_fault : (place : ℕ) (text : List ℕ) → IsUtf8 text → text_fault place text ≡ None
 no_text_fault place text h = rw (is_utf8-from_IsUtf8 text h) refl

@@ -3,8 +3,8 @@ use Rattle.std.specs.Prelude.{◌≡◌, ◌⊎◌, ℕ, ◌+◌, ◌-◌, ◌<�
 use Rattle.std.specs.Str.{IsUtf8}
 use Rattle.hb_wire.specs.Field.{Piece}
 use Rattle.hb_flow.specs.Fields.{Part, parts, body_in}
-use Rattle.hb_flow.specs.declared.fault.DecodeFault.{DecodeFault}
-use Rattle.hb_flow.specs.declared.fault.DecodeFault.TheVariants.{Malformed, BadUtf8, NoMemory}
+use Rattle.hb_schema.specs.declared.fault.DecodeFault.{DecodeFault}
+use Rattle.hb_schema.specs.declared.fault.DecodeFault.TheVariants.{Malformed, BadUtf8, NoMemory}
 
 -- the faults in the body of a field, by the field's number and the place of the body
 abbrev pub Inside : Type 1

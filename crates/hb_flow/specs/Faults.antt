@@ -5,8 +5,8 @@ use Rattle.std.specs.Str.{is_utf8}
 use Rattle.hb_wire.specs.Field.{Piece}
 use Rattle.hb_wire.specs.Reading.{field_at}
 use Rattle.hb_flow.specs.Fields.{body_in}
-use Rattle.hb_flow.specs.declared.fault.DecodeFault.{DecodeFault}
-use Rattle.hb_flow.specs.declared.fault.DecodeFault.TheVariants.{Malformed, BadUtf8, NoMemory}
+use Rattle.hb_schema.specs.declared.fault.DecodeFault.{DecodeFault}
+use Rattle.hb_schema.specs.declared.fault.DecodeFault.TheVariants.{Malformed, BadUtf8, NoMemory}
 
 -- what is wrong in the body of a field, by the field's number and the place of the body
 abbrev pub Check : Type 0

@@ -4,7 +4,8 @@ ghost use Rattle.hb_flow.specs.Faults.{Answers, response_fault};
 ghost use Rattle.hb_flow.specs.Messages.{event_in, record_bytes, read_response, oversized, EventFits};
 
 use crate::writing::{put_message, put_optional};
-use crate::{DecodeFault, Flow, GetFlowsResponse, LostEvent, ResponseTypes};
+use crate::{Flow, GetFlowsResponse, LostEvent, ResponseTypes};
+use hb_schema::DecodeFault;
 use hb_time::Stamp;
 use hb_wire::{NoMemory, Seq};
 use std::alloc::Global;

@@ -3,11 +3,11 @@ ghost use Rattle.hb_flow.specs.Faults.{flow_check};
 ghost use Rattle.hb_flow.specs.Messages.{flow_bytes};
 ghost use Rattle.hb_flow.specs.Steps.{flow_after};
 
-use crate::DecodeFault;
 use crate::message::Message;
 use crate::numbers::{int32, of_signed};
 use crate::parts::{keep_unknown, merge_stamp, text_of};
 use crate::writing::{put_number, put_optional, put_text, put_unknown};
+use hb_schema::DecodeFault;
 use hb_time::Stamp;
 use hb_wire::{Field, NoMemory, Seq, Text};
 use std::alloc::Global;

@@ -9,7 +9,7 @@ ghost use Rattle.hb_flow.specs.declared.lost_event.LostEvent.{LostEvent};
 ghost use Rattle.hb_flow.specs.declared.response.GetFlowsResponse.{GetFlowsResponse};
 ghost use Rattle.hb_flow.specs.Faults.{response_fault, lost_event_fault};
 ghost use Rattle.hb_flow.specs.AllFaults.{HasFault, HasLostEventFault, place_of};
-ghost use Rattle.hb_flow.specs.declared.fault.DecodeFault.{DecodeFault};
+ghost use Rattle.hb_schema.specs.declared.fault.DecodeFault.{DecodeFault};
 ghost use Rattle.hb_flow.specs.Messages.{ResponseFits, response_bytes, read_response};
 ghost use Rattle.hb_flow.specs.Messages.{LostEventFits, lost_event_bytes, read_lost_event};
 ghost use Rattle.hb_flow.specs.Messages.{EventFits, record_bytes, event_in};

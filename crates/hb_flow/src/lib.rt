@@ -6,7 +6,6 @@
 #![tactic(auto)]
 
 mod event;
-mod fault;
 mod flow;
 mod laws;
 mod lost_event;
@@ -19,7 +18,6 @@ mod stamp;
 mod writing;
 
 pub use event::{Event, Lost, event_of, oversize, record_of};
-pub use fault::DecodeFault;
 pub use flow::Flow;
 pub use laws::{least_fault, read_fits, record_is_read, spelled_fields, written_is_read};
 pub use lost_event::{Int32Value, LostEvent};

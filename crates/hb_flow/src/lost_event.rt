@@ -4,11 +4,11 @@ ghost use Rattle.hb_flow.specs.Faults.{int32_value_check, lost_event_check};
 ghost use Rattle.hb_flow.specs.Messages.{int32_value_bytes, lost_event_bytes};
 ghost use Rattle.hb_flow.specs.Steps.{int32_value_after, lost_event_after};
 
-use crate::DecodeFault;
 use crate::message::{Message, merge};
 use crate::numbers::{int32, of_signed};
 use crate::parts::{keep_unknown, merge_int32_value, no_lost_event};
 use crate::writing::{put_number, put_optional, put_unknown};
+use hb_schema::DecodeFault;
 use hb_wire::{Field, NoMemory, Seq};
 use std::alloc::Global;
 

@@ -5,7 +5,7 @@ ghost use Rattle.hb_wire.specs.Field.{piece_of};
 ghost use Rattle.hb_flow.specs.Fields.{parts};
 ghost use Rattle.hb_flow.specs.Faults.{Answers, content_fault, message_fault, body_size};
 
-use crate::DecodeFault;
+use hb_schema::DecodeFault;
 use hb_wire::{Field, NoMemory, next_field};
 use std::alloc::Global;
 

@@ -4,7 +4,8 @@ ghost use Rattle.hb_flow.specs.Faults.{Answers, message_fault, text_fault, stamp
 ghost use Rattle.hb_flow.specs.Steps.{no_flow, no_lost_event, stamp_merged, int32_value_merged};
 
 use crate::message::merge;
-use crate::{DecodeFault, Flow, Int32Value, LostEvent};
+use crate::{Flow, Int32Value, LostEvent};
+use hb_schema::DecodeFault;
 use hb_time::Stamp;
 use hb_wire::{NoMemory, Seq, Text};
 use std::alloc::Global;

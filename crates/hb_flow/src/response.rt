@@ -4,11 +4,12 @@ ghost use Rattle.hb_flow.specs.Faults.{response_check};
 ghost use Rattle.hb_flow.specs.Messages.{response_bytes};
 ghost use Rattle.hb_flow.specs.Steps.{response_after};
 
+use crate::ResponseTypes;
 use crate::message::{Message, merge};
 use crate::parts::{keep_unknown, merge_stamp, text_of};
 use crate::response_types::{put_member, take_flow, take_lost_events, take_status};
 use crate::writing::{put_optional, put_text, put_unknown};
-use crate::{DecodeFault, ResponseTypes};
+use hb_schema::DecodeFault;
 use hb_time::Stamp;
 use hb_wire::{Field, NoMemory, Seq, Text};
 use std::alloc::Global;

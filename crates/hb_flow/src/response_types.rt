@@ -9,7 +9,8 @@ ghost use Rattle.hb_flow.specs.Steps.{no_lost_event, lost_events_held, lost_even
 use crate::message::merge;
 use crate::parts::{keep_unknown, no_flow, no_lost_event};
 use crate::writing::put_message;
-use crate::{DecodeFault, Flow, LostEvent};
+use crate::{Flow, LostEvent};
+use hb_schema::DecodeFault;
 use hb_wire::{NoMemory, Seq, write_body};
 use std::alloc::Global;
 

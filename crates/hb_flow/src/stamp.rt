@@ -3,10 +3,10 @@ ghost use Rattle.hb_flow.specs.Faults.{stamp_check};
 ghost use Rattle.hb_flow.specs.Messages.{stamp_bytes};
 ghost use Rattle.hb_flow.specs.Steps.{stamp_after};
 
-use crate::DecodeFault;
 use crate::message::Message;
 use crate::numbers::{int32, int64, of_signed};
 use crate::writing::put_number;
+use hb_schema::DecodeFault;
 use hb_time::Stamp;
 use hb_wire::{Field, NoMemory};
 use std::alloc::Global;

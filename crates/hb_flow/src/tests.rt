@@ -9,6 +9,7 @@ mod spellings;
 
 use super::*;
 use hb_cases::{bytes, digits, number, rows};
+use hb_schema::DecodeFault;
 use hb_time::Stamp;
 use hb_wire::Seq;
 use std::alloc::Global;

@@ -4,7 +4,7 @@ use Rattle.std.specs.Prelude.{pos}
 use Rattle.std.specs.Option.{option_map}
 use Rattle.std.proofs.lemmas.Bool.{le-leb, lt-leb, cases_lt}
 use Rattle.std.specs.List.{AllByRecursion}
-use Rattle.hb_flow.specs.declared.fault.DecodeFault.{DecodeFault}
+use Rattle.hb_schema.specs.declared.fault.DecodeFault.{DecodeFault}
 use Rattle.hb_flow.proofs.Again.{record_again, record_clean}
 use Rattle.hb_session.specs.Events.{event_of_record, sound_event}
 use Rattle.hb_wire.specs.Varint.{varint, varint_of}

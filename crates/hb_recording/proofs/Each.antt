@@ -7,7 +7,7 @@ use Rattle.std.proofs.lemmas.Bool.{cases_lt}
 use Rattle.hb_wire.specs.Varint.{AreBytes}
 use Rattle.hb_flow.specs.Faults.{response_fault}
 use Rattle.hb_flow.specs.Messages.{read_response, response_bytes}
-use Rattle.hb_flow.specs.declared.fault.DecodeFault.{DecodeFault}
+use Rattle.hb_schema.specs.declared.fault.DecodeFault.{DecodeFault}
 use Rattle.hb_flow.specs.declared.response.GetFlowsResponse.{GetFlowsResponse}
 use Rattle.hb_frame.specs.Frames.{Frame, frame_bytes, messages}
 use Rattle.hb_frame.specs.Cut.{StartsNoFrame}

@@ -7,7 +7,7 @@ use Rattle.std.proofs.lemmas.List.Elements.{filter_map-append}
 use Rattle.hb_flow.proofs.Pieces.{all_append}
 use Rattle.hb_flow.specs.Faults.{response_fault}
 use Rattle.hb_flow.specs.Messages.{read_response}
-use Rattle.hb_flow.specs.declared.fault.DecodeFault.{DecodeFault}
+use Rattle.hb_schema.specs.declared.fault.DecodeFault.{DecodeFault}
 use Rattle.hb_flow.specs.declared.response.GetFlowsResponse.{GetFlowsResponse}
 use Rattle.hb_frame.specs.Frames.{Frame, frame_bytes, message_frame, message_in, messages}
 use Rattle.hb_frame.specs.Cut.{StartsFrame}

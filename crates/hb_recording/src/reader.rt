@@ -7,8 +7,9 @@ ghost use Rattle.hb_frame.specs.Frames.{message_frame};
 ghost use Rattle.hb_frame.specs.Cut.{StartsFrame};
 
 use crate::fits::fits_frame;
-use hb_flow::{DecodeFault, GetFlowsResponse};
+use hb_flow::GetFlowsResponse;
 use hb_frame::{Front, MESSAGE, front_of};
+use hb_schema::DecodeFault;
 use std::alloc::Global;
 use std::marker::Model;
 

@@ -10,7 +10,7 @@ use Rattle.hb_wire.proofs.FieldLemmas.{field_front}
 use Rattle.hb_flow.specs.Fields.{Part, parts_of, parts, bodies, last_or, members, last_run, member_bodies, Row, knows, unknown}
 use Rattle.hb_flow.specs.Messages.{flow_row, lost_event_row, read_flow, read_lost_event, read_member, read_response, member_event, event_in}
 use Rattle.hb_flow.specs.Faults.{response_fault}
-use Rattle.hb_flow.specs.declared.fault.DecodeFault.{DecodeFault}
+use Rattle.hb_schema.specs.declared.fault.DecodeFault.{DecodeFault}
 use Rattle.hb_time.specs.declared.stamp.Stamp.{Stamp}
 use Rattle.hb_flow.specs.declared.response_types.ResponseTypes.TheVariants as member
 use Rattle.hb_flow.specs.declared.event.Event.{Event}

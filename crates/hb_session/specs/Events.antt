@@ -5,7 +5,7 @@ use Rattle.std.specs.Option.{option_map_or}
 use Rattle.std.specs.List.{count_by}
 use Rattle.hb_time.specs.declared.stamp.Stamp.{Stamp}
 use Rattle.hb_time.specs.Stamps.{stamp_of}
-use Rattle.hb_flow.specs.declared.fault.DecodeFault.{DecodeFault}
+use Rattle.hb_schema.specs.declared.fault.DecodeFault.{DecodeFault}
 use Rattle.hb_flow.specs.declared.event.Event.{Event}
 use Rattle.hb_flow.specs.declared.event.Event.TheVariants as events
 use Rattle.hb_flow.specs.Faults.{response_fault}

@@ -4,7 +4,8 @@ ghost use Rattle.hb_session.specs.Events.{event_of_record, lost_event, not_after
 
 use crate::Loss;
 use hb_api::GetFlowsRequest;
-use hb_flow::{DecodeFault, Event, Lost, LostEvent, event_of};
+use hb_flow::{Event, Lost, LostEvent, event_of};
+use hb_schema::DecodeFault;
 use hb_time::{Stamp, of_moment};
 use hb_wire::{NoMemory, Seq};
 use std::alloc::Global;

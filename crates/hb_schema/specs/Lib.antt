@@ -1,0 +1,11 @@
+pub mod Fields
+pub mod Rows
+pub mod Reading
+pub mod Writing
+pub mod Fits
+pub mod Faults
+pub mod AllFaults
+pub mod Steps
+pub mod Surface
+pub mod Table
+pub mod Views
